@@ -59,10 +59,11 @@ check_text() {
 # of a time of day that gave no minute
 about_time() {
   [[ $1 = --from || $1 = --now ]] && is_later_time "$2" || return 0
-  if [ -z "$clock" ]; then
+  local minute_0=${clock:-${shown_clock-}}
+  if [ -z "$minute_0" ]; then
     echo "; a time of day needs --clock with the time of minute 0"
   else
-    echo "; minute 0 is $clock, and a time of the next day is written +1 $2"
+    echo "; minute 0 is $minute_0, and a time of the next day is written +1 $2"
   fi
 }
 

@@ -25,6 +25,7 @@ options_of() {
   case $1 in
     solve | resume) echo "--nodes --turns --workers --dossier --keep" ;;
     replan) echo "--from --now --nodes --turns --workers --dossier" ;;
+    picture) echo "--now" ;;
     lot) echo "--number --ships --chambers" ;;
     trial) echo "--number --ships --chambers --nodes --turns" ;;
   esac

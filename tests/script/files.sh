@@ -60,6 +60,8 @@ drawn() {
 rows drawn <<'ROWS'
 two.dossier | 0 | <h1>optimal, total flow time 120 minutes</h1>
 two.dossier --clock 06:00 | 0 | <p class="sub">from 06:00 to
+evening.lock evening.plan --now 19:30 --clock 17:00 | 0 | <g><title>lockage 3 down, begun, from 19:00 to 19:35: dina</title>
+evening.lock evening.plan --now=150 | 0 | y="9">now 150</text>
 two.open | 0 | <h1>open, total flow time 506 minutes; no plan takes less than 280 minutes</h1>
 cheap.dossier | 7 | rejected cost reason 2 CostWrong | cheap.dossier: rejected at cost: its plan does not cost what the dossier says.
 typo.dossier | 7 | dossier fault 1 Instance line 3 fault 5 Number | typo.dossier:3: fault 5 Number: "11oo" stands for the length

@@ -1,5 +1,5 @@
 -- A dossier that is accepted, and an open one that stands, are drawn, want of memory aside.
-use Rattle.std.proofs.Common.{ℕ, ◌≡◌, ◌⊎◌, List, Option, None, Some, Result, Ok, Err, refl, subst, ap}
+use Rattle.std.proofs.Common.{ℕ, ◌≡◌, ◌⊎◌, List, Option, None, Some, Result, Ok, Err, refl, subst}
 use Rattle.std.specs.Prelude.{option_map}
 use Rattle.list_laws.proofs.Variants.{one-ok}
 use Rattle.lock_model.specs.declared.ship.Ship.{Ship}
@@ -20,7 +20,7 @@ use Rattle.cert_text.specs.declared.heading.Heading.TheVariants as kind
 use Rattle.cert_text.specs.declared.heading.Version.{Version}
 use Rattle.cert_text.specs.declared.bad.BadDossier.{BadDossier as AnyFault}
 use Rattle.cert_text.specs.declared.bad.BadDossier.TheVariants as fault
-use Rattle.picture_page.specs.declared.times.Clock.{Clock}
+use Rattle.picture_page.specs.declared.times.Dial.{Dial}
 use Rattle.checked_dossiers.specs.Accepted.{IsAccepted, IsNotAccepted}
 use Rattle.checked_dossiers.specs.Standing.{IsStanding, IsNoStanding}
 use Rattle.checked_dossiers.proofs.ExactLemmas.{accepted_wants, standing_wants}
@@ -78,24 +78,24 @@ reads_version own bytes I C reads =
 
 -- ---- how a picture may end
 
-whole_drawn : (clock : Clock) (bytes : List ℕ) (I : Instance) (C : Certificate) (s : Status) (text : List ℕ) (h : Heading) (version : Version) → IsAccepted bytes I C → version_under form.Whole h ≡ Some version → AnswersHeaded clock (Some h) bytes s text → (s ≡ Good) ⊎ (s ≡ NoMemory)
-whole_drawn clock bytes I C s text (kind.Whole v) version accepted is answer =
-    good_or (PrintsCheapest clock bytes text) (λ t. IsNotAccepted bytes t text) s (λ refusal. accepted_wants bytes s text refusal I C accepted) answer
-whole_drawn clock bytes I C s text (kind.Open v) version accepted is answer = absurd cc
+whole_drawn : (dial : Dial) (bytes : List ℕ) (I : Instance) (C : Certificate) (s : Status) (text : List ℕ) (h : Heading) (version : Version) → IsAccepted bytes I C → version_under form.Whole h ≡ Some version → AnswersHeaded dial (Some h) bytes s text → (s ≡ Good) ⊎ (s ≡ NoMemory)
+whole_drawn dial bytes I C s text (kind.Whole v) version accepted is answer =
+    good_or (PrintsCheapest dial bytes text) (λ t. IsNotAccepted bytes t text) s (λ refusal. accepted_wants bytes s text refusal I C accepted) answer
+whole_drawn dial bytes I C s text (kind.Open v) version accepted is answer = absurd cc
 
-open_drawn : (clock : Clock) (bytes : List ℕ) (I : Instance) (C : Certificate) (s : Status) (text : List ℕ) (h : Heading) (version : Version) → IsStanding bytes I C → version_under form.Open h ≡ Some version → AnswersHeaded clock (Some h) bytes s text → (s ≡ Good) ⊎ (s ≡ NoMemory)
-open_drawn clock bytes I C s text (kind.Whole v) version stands is answer = absurd cc
-open_drawn clock bytes I C s text (kind.Open v) version stands is answer =
-    good_or (PrintsBounded clock bytes text) (λ t. IsNoStanding bytes t text) s (λ refusal. standing_wants bytes s text refusal I C stands) answer
+open_drawn : (dial : Dial) (bytes : List ℕ) (I : Instance) (C : Certificate) (s : Status) (text : List ℕ) (h : Heading) (version : Version) → IsStanding bytes I C → version_under form.Open h ≡ Some version → AnswersHeaded dial (Some h) bytes s text → (s ≡ Good) ⊎ (s ≡ NoMemory)
+open_drawn dial bytes I C s text (kind.Whole v) version stands is answer = absurd cc
+open_drawn dial bytes I C s text (kind.Open v) version stands is answer =
+    good_or (PrintsBounded dial bytes text) (λ t. IsNoStanding bytes t text) s (λ refusal. standing_wants bytes s text refusal I C stands) answer
 
 -- what `check` accepts is drawn
-pub accepted_drawn : (clock : Clock) (bytes : List ℕ) (I : Instance) (C : Certificate) (s : Status) (text : List ℕ) → IsAccepted bytes I C → AnswersPicture clock bytes s text → (s ≡ Good) ⊎ (s ≡ NoMemory)
-accepted_drawn clock bytes I C s text accepted answer =
+pub accepted_drawn : (dial : Dial) (bytes : List ℕ) (I : Instance) (C : Certificate) (s : Status) (text : List ℕ) → IsAccepted bytes I C → AnswersPicture dial bytes s text → (s ≡ Good) ⊎ (s ≡ NoMemory)
+accepted_drawn dial bytes I C s text accepted answer =
     let found = reads_version form.Whole bytes I C accepted.reads in
-    whole_drawn clock bytes I C s text found.heading found.version accepted found.gives (subst (λ h. AnswersHeaded clock h bytes s text) found.is answer)
+    whole_drawn dial bytes I C s text found.heading found.version accepted found.gives (subst (λ h. AnswersHeaded dial h bytes s text) found.is answer)
 
 -- and so is an open dossier that stands
-pub standing_drawn : (clock : Clock) (bytes : List ℕ) (I : Instance) (C : Certificate) (s : Status) (text : List ℕ) → IsStanding bytes I C → AnswersPicture clock bytes s text → (s ≡ Good) ⊎ (s ≡ NoMemory)
-standing_drawn clock bytes I C s text stands answer =
+pub standing_drawn : (dial : Dial) (bytes : List ℕ) (I : Instance) (C : Certificate) (s : Status) (text : List ℕ) → IsStanding bytes I C → AnswersPicture dial bytes s text → (s ≡ Good) ⊎ (s ≡ NoMemory)
+standing_drawn dial bytes I C s text stands answer =
     let found = reads_version form.Open bytes I C stands.reads in
-    open_drawn clock bytes I C s text found.heading found.version stands found.gives (subst (λ h. AnswersHeaded clock h bytes s text) found.is answer)
+    open_drawn dial bytes I C s text found.heading found.version stands found.gives (subst (λ h. AnswersHeaded dial h bytes s text) found.is answer)

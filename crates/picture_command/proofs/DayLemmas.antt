@@ -8,7 +8,7 @@ use Rattle.day_play.specs.Playing.{day_of}
 use Rattle.day_play.specs.declared.beat.Act.{Act}
 use Rattle.day_play.specs.declared.beat.Act.TheVariants.{Turn, Moor, Go, Done}
 use Rattle.day_play.specs.declared.beat.Beat.{Beat}
-use Rattle.picture_page.specs.declared.times.Clock.{Clock}
+use Rattle.picture_page.specs.declared.times.Dial.{Dial}
 use Rattle.picture_page.specs.Passages.{is_go, IsKnownGo}
 use Rattle.picture_page.specs.Page.{picture}
 use Rattle.picture_page.specs.declared.heads.Known.{Known}
@@ -28,9 +28,9 @@ day_goes I P bs lawful =
     All-weaker (IsKnownBeat I P) (IsKnownGo P) (λ b known. record { known = known_go I P b.lockage b.act known.act }) bs (day_known I P bs lawful)
 
 -- the picture of the day that is played is what is printed
-pub day_pictured : (clock : Clock) (kind : Known) (I : Instance) (P : Plan) (bs : List Beat) (text : List ℕ) → IsLawfulDay I P bs → bs ≡ day_of I P
-    → text ≡ picture kind clock I P bs → IsPicture clock kind I P text
-day_pictured clock kind I P bs text lawful played shown = record {
+pub day_pictured : (dial : Dial) (kind : Known) (I : Instance) (P : Plan) (bs : List Beat) (text : List ℕ) → IsLawfulDay I P bs → bs ≡ day_of I P
+    → text ≡ picture kind dial I P bs → IsPicture dial kind I P text
+day_pictured dial kind I P bs text lawful played shown = record {
   lawful = subst (IsLawfulDay I P) played lawful;
-  shown = shown ∙ ap (picture kind clock I P) played;
+  shown = shown ∙ ap (picture kind dial I P) played;
 }

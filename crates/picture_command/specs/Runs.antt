@@ -1,7 +1,7 @@
 -- What is answered to words and a source.
 use Rattle.std.specs.Prelude.{ℕ, ◌≡◌, List, Some, None}
 use Rattle.std.specs.declared.option.Option.{Option}
-use Rattle.picture_page.specs.declared.times.Clock.{Clock}
+use Rattle.picture_page.specs.declared.times.Dial.{Dial}
 use Rattle.checked_dossiers.specs.Refused.{dossier_limit}
 use Rattle.run_answers.specs.Sources.{Drained, IsUnread, AnswersSource}
 use Rattle.run_answers.specs.Texts.{bad_words_text}
@@ -17,9 +17,9 @@ pub record AnswersBadWords (source : Drained) (status : Status) (text : List ℕ
   pub shown : text ≡ bad_words_text
 
 -- what is answered to what was asked
-abbrev pub AnswersAsked : Option Clock → Drained → Status → List ℕ → Type 0
+abbrev pub AnswersAsked : Option Dial → Drained → Status → List ℕ → Type 0
 AnswersAsked None source status text = AnswersBadWords source status text
-AnswersAsked (Some clock) source status text = AnswersSource dossier_limit (AnswersPicture clock) source status text
+AnswersAsked (Some dial) source status text = AnswersSource dossier_limit (AnswersPicture dial) source status text
 
 -- WHAT IS ANSWERED to words and a source
 abbrev pub AnswersRun : List (List ℕ) → Drained → Status → List ℕ → Type 0

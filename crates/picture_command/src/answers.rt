@@ -31,7 +31,7 @@ pub fn answer_to<S: Source>(alloc: Global, words: &[String], src: &mut S) -> Ans
     ensures { AnswersRun (map string_bytes words.now) (drained (S.left src.old) (S.left src.new) (S.faults src.old) (S.faults src.new)) result.status (bytes_in result.text) }
 {
     match asked_in(words) {
-        Some(clock) => picture_answer(alloc, clock, src),
+        Some(dial) => picture_answer(alloc, dial, src),
         None => refusal(),
     }
 }

@@ -2,7 +2,8 @@
 //!
 //! `picture` reads an instance and then a plan of it, as `judge` does, or a dossier, as `check` and
 //! `lower` do: the line behind the instance tells which. It answers the plan's picture as one page, or
-//! what those commands answer where they refuse. `--clock HH:MM` says which time of day minute 0 is.
+//! what those commands answer where they refuse. `--clock HH:MM` says which time of day minute 0 is,
+//! and `--now N` which minute it is: the page then shows what has begun before it.
 //!
 //! `accepted_are_drawn` and `standing_are_drawn` are the laws that a dossier which is accepted, and an
 //! open one that stands, are drawn, want of memory aside.

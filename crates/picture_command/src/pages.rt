@@ -9,7 +9,7 @@ ghost use Rattle.picture_command.specs.Pictures.{TellsPicture};
 use day_play::{Day, Played, play};
 use lock_model::{Instance, Plan};
 use no_memory::NoMemory;
-use picture_page::{Clock, Known, print_picture};
+use picture_page::{Dial, Known, print_picture};
 use run_answers::{Answer, Status, Text, no_memory};
 use std::alloc::Global;
 
@@ -17,7 +17,7 @@ use std::alloc::Global;
 #[tactic(auto, using(crate::proofs::DayLemmas::day_goes, crate::proofs::DayLemmas::day_pictured))]
 pub(crate) fn day_page(
     alloc: Global,
-    clock: Clock,
+    dial: Dial,
     known: Known,
     instance: &Instance,
     plan: &Plan,
@@ -26,9 +26,9 @@ pub(crate) fn day_page(
     requires legal { IsLegal instance.now plan.now }
     requires lawful { IsLawfulDay instance.now plan.now day.now }
     requires played { day.now ≡ day_of instance.now plan.now }
-    ensures { TellsPicture clock known instance.now plan.now result.status (bytes_in result.text) }
+    ensures { TellsPicture dial known instance.now plan.now result.status (bytes_in result.text) }
 {
-    match print_picture(alloc, known, clock, instance, plan, day.as_slice()) {
+    match print_picture(alloc, known, dial, instance, plan, day.as_slice()) {
         Ok(page) => Answer {
             status: Status::Good,
             text: Text::Made(page),
@@ -40,16 +40,16 @@ pub(crate) fn day_page(
 /// The page of a legal plan, which is played for it.
 pub(crate) fn plan_page(
     alloc: Global,
-    clock: Clock,
+    dial: Dial,
     known: Known,
     instance: &Instance,
     plan: &Plan,
 ) -> Answer
     requires { IsLegal instance.now plan.now }
-    ensures { TellsPicture clock known instance.now plan.now result.status (bytes_in result.text) }
+    ensures { TellsPicture dial known instance.now plan.now result.status (bytes_in result.text) }
 {
     match play(instance, plan) {
-        Played::Day(day) => day_page(alloc, clock, known, instance, plan, &day),
+        Played::Day(day) => day_page(alloc, dial, known, instance, plan, &day),
         Played::Stuck(_) => unreachable!(),
     }
 }

@@ -16,61 +16,55 @@ use checked_dossiers::{CheckedDossier, DOSSIER_LIMIT, read_accepted, read_standi
 use day_play::{Played, play};
 use lock_io::Source;
 use lock_model::{Instance, Plan};
-use picture_page::{Clock, Known};
+use picture_page::{Dial, Known};
 use plan_commands::{break_answer, read_planned};
 use run_answers::{Answer, read_source};
 use std::alloc::Global;
 
 // What comes of the plan that the bytes name.
 #[tactic(auto, using(crate::proofs::AnswerLemmas::plan_pictured, crate::proofs::AnswerLemmas::plan_refused))]
-fn named_answer(
-    alloc: Global,
-    clock: Clock,
-    bytes: &[u8],
-    instance: &Instance,
-    plan: &Plan,
-) -> Answer
+fn named_answer(alloc: Global, dial: Dial, bytes: &[u8], instance: &Instance, plan: &Plan) -> Answer
     requires { IsPlanned bytes.now instance.now plan.now }
-    ensures { AnswersPlan clock bytes.now result.status (bytes_in result.text) }
+    ensures { AnswersPlan dial bytes.now result.status (bytes_in result.text) }
 {
     match play(instance, plan) {
-        Played::Day(day) => day_page(alloc, clock, Known::Legal, instance, plan, &day),
+        Played::Day(day) => day_page(alloc, dial, Known::Legal, instance, plan, &day),
         Played::Stuck(broken) => break_answer(alloc, bytes, instance, plan, broken),
     }
 }
 
 // What is answered to an instance and a plan.
 #[tactic(auto, using(crate::proofs::AnswerLemmas::plan_refused))]
-fn plan_answer(alloc: Global, clock: Clock, bytes: &[u8]) -> Answer
-    ensures { AnswersPlan clock bytes.now result.status (bytes_in result.text) }
+fn plan_answer(alloc: Global, dial: Dial, bytes: &[u8]) -> Answer
+    ensures { AnswersPlan dial bytes.now result.status (bytes_in result.text) }
 {
     match read_planned(alloc, bytes) {
-        Ok((instance, plan)) => named_answer(alloc, clock, bytes, &instance, &plan),
+        Ok((instance, plan)) => named_answer(alloc, dial, bytes, &instance, &plan),
         Err(answer) => answer,
     }
 }
 
 // The page of a dossier whose certificate is accepted.
 #[tactic(auto, using(crate::proofs::AnswerLemmas::dossier_pictured))]
-fn accepted_answer(alloc: Global, clock: Clock, bytes: &[u8], dossier: &CheckedDossier) -> Answer
+fn accepted_answer(alloc: Global, dial: Dial, bytes: &[u8], dossier: &CheckedDossier) -> Answer
     requires { IsAccepted bytes.now dossier.now.instance dossier.now.certificate }
-    ensures { AnswersDossier clock bytes.now result.status (bytes_in result.text) }
+    ensures { AnswersDossier dial bytes.now result.status (bytes_in result.text) }
 {
     let CheckedDossier {
         instance,
         certificate,
         ..
     } = dossier;
-    plan_page(alloc, clock, Known::Optimal, instance, &certificate.plan)
+    plan_page(alloc, dial, Known::Optimal, instance, &certificate.plan)
 }
 
 // What is answered to a dossier.
 #[tactic(auto, using(crate::proofs::AnswerLemmas::dossier_refused))]
-fn dossier_answer(alloc: Global, clock: Clock, bytes: &[u8]) -> Answer
-    ensures { AnswersDossier clock bytes.now result.status (bytes_in result.text) }
+fn dossier_answer(alloc: Global, dial: Dial, bytes: &[u8]) -> Answer
+    ensures { AnswersDossier dial bytes.now result.status (bytes_in result.text) }
 {
     match read_accepted(alloc, bytes) {
-        Ok(dossier) => accepted_answer(alloc, clock, bytes, &dossier),
+        Ok(dossier) => accepted_answer(alloc, dial, bytes, &dossier),
         Err(answer) => answer,
     }
 }
@@ -87,10 +81,10 @@ fn known_of(low: u64, certificate: &Certificate) -> Known
 }
 
 // The page of an open dossier that stands.
-fn standing_answer(alloc: Global, clock: Clock, bytes: &[u8], dossier: &CheckedDossier) -> Answer
+fn standing_answer(alloc: Global, dial: Dial, bytes: &[u8], dossier: &CheckedDossier) -> Answer
     requires standing { IsStanding bytes.now dossier.now.instance dossier.now.certificate }
     requires low { HasLow dossier.now.instance dossier.now.certificate dossier.now.low }
-    ensures { AnswersOpenDossier clock bytes.now result.status (bytes_in result.text) }
+    ensures { AnswersOpenDossier dial bytes.now result.status (bytes_in result.text) }
 {
     let CheckedDossier {
         instance,
@@ -98,29 +92,29 @@ fn standing_answer(alloc: Global, clock: Clock, bytes: &[u8], dossier: &CheckedD
         low,
     } = dossier;
     let known = known_of(*low, certificate);
-    plan_page(alloc, clock, known, instance, &certificate.plan)
+    plan_page(alloc, dial, known, instance, &certificate.plan)
 }
 
 // What is answered to an open dossier.
 #[tactic(auto, using(crate::proofs::AnswerLemmas::open_refused))]
-fn open_answer(alloc: Global, clock: Clock, bytes: &[u8]) -> Answer
-    ensures { AnswersOpenDossier clock bytes.now result.status (bytes_in result.text) }
+fn open_answer(alloc: Global, dial: Dial, bytes: &[u8]) -> Answer
+    ensures { AnswersOpenDossier dial bytes.now result.status (bytes_in result.text) }
 {
     match read_standing(alloc, bytes) {
-        Ok(dossier) => standing_answer(alloc, clock, bytes, &dossier),
+        Ok(dossier) => standing_answer(alloc, dial, bytes, &dossier),
         Err(answer) => answer,
     }
 }
 
 // What is answered to the bytes of a text, by what follows its instance part.
 #[tactic(auto, using(crate::proofs::AnswerLemmas::plan_follows, crate::proofs::AnswerLemmas::certificate_follows, crate::proofs::AnswerLemmas::open_follows))]
-fn text_answer(alloc: Global, clock: Clock, bytes: &[u8]) -> Answer
-    ensures { AnswersPicture clock bytes.now result.status (bytes_in result.text) }
+fn text_answer(alloc: Global, dial: Dial, bytes: &[u8]) -> Answer
+    ensures { AnswersPicture dial bytes.now result.status (bytes_in result.text) }
 {
     match heading_in(bytes) {
-        None => plan_answer(alloc, clock, bytes),
-        Some(Heading::Whole(_)) => dossier_answer(alloc, clock, bytes),
-        Some(Heading::Open(_)) => open_answer(alloc, clock, bytes),
+        None => plan_answer(alloc, dial, bytes),
+        Some(Heading::Whole(_)) => dossier_answer(alloc, dial, bytes),
+        Some(Heading::Open(_)) => open_answer(alloc, dial, bytes),
     }
 }
 
@@ -128,11 +122,11 @@ fn text_answer(alloc: Global, clock: Clock, bytes: &[u8]) -> Answer
 /// plan of a dossier that is accepted or stands, it answers the picture. Else it says what is refused, as
 /// `judge`, `check` and `lower` do.
 #[tactic(auto, using(crate::proofs::AnswerLemmas::picture_fair, run_answers::proofs::SourceLemmas::bytes_answer, run_answers::proofs::SourceLemmas::unreadable_answers))]
-pub(crate) fn picture_answer<S: Source>(alloc: Global, clock: Clock, src: &mut S) -> Answer
-    ensures answer { AnswersSource dossier_limit (AnswersPicture clock) (drained (S.left src.old) (S.left src.new) (S.faults src.old) (S.faults src.new)) result.status (bytes_in result.text) }
+pub(crate) fn picture_answer<S: Source>(alloc: Global, dial: Dial, src: &mut S) -> Answer
+    ensures answer { AnswersSource dossier_limit (AnswersPicture dial) (drained (S.left src.old) (S.left src.new) (S.faults src.old) (S.faults src.new)) result.status (bytes_in result.text) }
 {
     match read_source(alloc, src, DOSSIER_LIMIT) {
-        Ok(bytes) => text_answer(alloc, clock, bytes.as_slice()),
+        Ok(bytes) => text_answer(alloc, dial, bytes.as_slice()),
         Err(answer) => answer,
     }
 }

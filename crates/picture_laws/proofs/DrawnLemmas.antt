@@ -23,6 +23,7 @@ use Rattle.picture_page.specs.Writing.{writing}
 use Rattle.picture_page.specs.Hulls.{hulls, hull_text, hull_of}
 use Rattle.picture_page.specs.Labels.{stretch_of}
 use Rattle.picture_page.specs.Lanes.{lockage_box}
+use Rattle.picture_page.specs.Present.{has_begun, present_x}
 use Rattle.picture_page.specs.Passages.{is_go, passage_in, passages_from, passages_of, line_of, has}
 use Rattle.picture_page.specs.Scales.{deck_scale, units_of}
 use Rattle.picture_page.specs.ShipRows.{row, rows, row_picture, row_among}
@@ -47,6 +48,7 @@ box_of I P axis t = record {
   lockage = t.lockage;
   left = x_of axis (lockage_at P t.lockage).start;
   right = x_of axis (end_of I (lockage_at P t.lockage));
+  begun = has_begun axis.present (lockage_at P t.lockage).start;
 }
 
 abbrev pub starts_in : Plan → ℕ → List Start → List Start
@@ -90,6 +92,7 @@ sheet_of I P axis ts = record {
   boxes = λ c. map (box_of I P axis) (starts_in P c ts);
   rows = flat_map (λ s. rows_among I P axis s ts) (order_of I);
   decks = map (deck_of_start I P) ts;
+  present = present_x axis;
 }
 
 -- ---- lists
@@ -140,7 +143,7 @@ module _ (I : Instance) (P : Plan) where
   box-written axis t = refl
 
   row-written : (axis : Drawn) (s : ℕ) (t : Start)
-      → row I axis (ship_at I s) (passage_in I (day_of I P) t.number t.lockage (lockage_at P t.lockage)) ≡ row_text I P axis.clock (row_shape I P axis s t)
+      → row I axis (ship_at I s) (passage_in I (day_of I P) t.number t.lockage (lockage_at P t.lockage)) ≡ row_text I P axis.clock (present_x axis) (row_shape I P axis s t)
   unfolding row row_picture stretch_of
   row-written axis s t = refl
 
@@ -152,14 +155,14 @@ module _ (I : Instance) (P : Plan) where
 
   rows-written : (axis : Drawn) (s : ℕ) (ts : List Start)
       → row_among I axis s (map (λ (t : Start). passage_in I (day_of I P) t.number t.lockage (lockage_at P t.lockage)) ts)
-      ≡ flat_map (row_text I P axis.clock) (rows_among I P axis s ts)
+      ≡ flat_map (row_text I P axis.clock (present_x axis)) (rows_among I P axis s ts)
   rows-written axis s [] = refl
   rows-written axis s (t ∷ ts) =
       elim (has s (lockage_at P t.lockage).ships) as (λ h.
       cond h (row I axis (ship_at I s) (passage_in I (day_of I P) t.number t.lockage (lockage_at P t.lockage)))
       (row_among I axis s (map (λ (t : Start). passage_in I (day_of I P) t.number t.lockage (lockage_at P t.lockage)) ts))
-      ≡ flat_map (row_text I P axis.clock) (cond h (row_shape I P axis s t ∷ []) (rows_among I P axis s ts))) [
-        | true ↦ row-written axis s t ∙ sym (append-nil (row_text I P axis.clock (row_shape I P axis s t)))
+      ≡ flat_map (row_text I P axis.clock (present_x axis)) (cond h (row_shape I P axis s t ∷ []) (rows_among I P axis s ts))) [
+        | true ↦ row-written axis s t ∙ sym (append-nil (row_text I P axis.clock (present_x axis) (row_shape I P axis s t)))
         | false ↦ rows-written axis s ts
       ]
 
@@ -193,13 +196,13 @@ module _ (I : Instance) (P : Plan) where
       ∙ sym (flat_map-map (box_text I P axis.clock) (box_of I P axis) (starts_in P c own_starts))
 
   pub all-rows-written : (axis : Drawn)
-      → rows I axis (passages_of I P (day_of I P)) ≡ flat_map (row_text I P axis.clock) (flat_map (λ s. rows_among I P axis s own_starts) (order_of I))
+      → rows I axis (passages_of I P (day_of I P)) ≡ flat_map (row_text I P axis.clock (present_x axis)) (flat_map (λ s. rows_among I P axis s own_starts) (order_of I))
   unfolding rows
   all-rows-written axis =
       ap (λ ps. flat_map (λ s. row_among I axis s ps) (order_of I)) day-passages
       ∙ flat_map-same (λ s. row_among I axis s (map (λ (t : Start). passage_in I (day_of I P) t.number t.lockage (lockage_at P t.lockage)) own_starts))
-      (λ s. flat_map (row_text I P axis.clock) (rows_among I P axis s own_starts)) (λ s. rows-written axis s own_starts) (order_of I)
-      ∙ flat_map-parts (λ s. rows_among I P axis s own_starts) (row_text I P axis.clock) (order_of I)
+      (λ s. flat_map (row_text I P axis.clock (present_x axis)) (rows_among I P axis s own_starts)) (λ s. rows-written axis s own_starts) (order_of I)
+      ∙ flat_map-parts (λ s. rows_among I P axis s own_starts) (row_text I P axis.clock (present_x axis)) (order_of I)
 
   pub all-cards-written : (clock : Clock) → cards I P clock (passages_of I P (day_of I P)) ≡ flat_map (deck_text I P clock) (map (deck_of_start I P) own_starts)
   unfolding cards

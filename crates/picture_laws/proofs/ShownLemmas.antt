@@ -80,7 +80,7 @@ module _ (I : Instance) (P : Plan) (axis : Drawn) where
         | inl same ↦
             subst (λ h. All (IsBoxOf I P axis c) (map (box_of I P axis) (cond h (t ∷ starts_in P c ts) (starts_in P c ts)))) (sym same.0)
             (All-cons (IsBoxOf I P axis c) (box_of I P axis t) (map (box_of I P axis) (starts_in P c ts))
-            (record { known = here; lane = same.1; left = refl; right = refl }) rest)
+            (record { known = here; lane = same.1; left = refl; right = refl; begun = refl }) rest)
         | inr other ↦
             subst (λ h. All (IsBoxOf I P axis c) (map (box_of I P axis) (cond h (t ∷ starts_in P c ts) (starts_in P c ts)))) (sym other.0) rest
       ]

@@ -1,5 +1,6 @@
 -- The shapes of a picture that say the plan, each with the numbers by which it is drawn, and their texts.
-use Rattle.std.specs.Prelude.{ℕ, ◌+◌, ◌-◌, List, [], ◌∷◌, ◌++◌, codes, decimal}
+use Rattle.std.specs.Prelude.{ℕ, ◌+◌, ◌-◌, List, [], ◌∷◌, ◌++◌, Bool, codes, decimal}
+use Rattle.std.specs.declared.option.Option.{Option}
 use Rattle.std.specs.List.{flat_map}
 use Rattle.lock_model.specs.Fleet.{ship_at, chamber_at}
 use Rattle.lock_model.specs.declared.chamber.Chamber.{Chamber}
@@ -12,8 +13,9 @@ use Rattle.picture_page.specs.Berths.{berth_text}
 use Rattle.picture_page.specs.Cards.{card_head, card_title, height_of, list_rows}
 use Rattle.picture_page.specs.Forms.{filled}
 use Rattle.picture_page.specs.Hulls.{outline}
-use Rattle.picture_page.specs.Lanes.{box_title, box_width}
+use Rattle.picture_page.specs.Lanes.{box_title, box_width, begun_frame}
 use Rattle.picture_page.specs.Passages.{passage_in, passage_end}
+use Rattle.picture_page.specs.Present.{present_line}
 use Rattle.picture_page.specs.Scales.{deck_scale}
 use Rattle.picture_page.specs.Shapes.{passage_box}
 use Rattle.picture_page.specs.ShipRows.{row_name, row_wait, row_passage, wait_line, row_number}
@@ -23,12 +25,13 @@ use Rattle.picture_page.specs.Words.{measures}
 use Rattle.picture_page.specs.Writing.{writing}
 use Rattle.picture_page.specs.declared.times.Clock.{Clock}
 
--- the box of the lockage at a place of the plan, under its number on the page, between two pixels
+-- the box of the lockage at a place of the plan, under its number on the page, between two pixels, and with a second outline or not
 pub record Box : Type 0 where
   pub number : ℕ
   pub lockage : ℕ
   pub left : ℕ
   pub right : ℕ
+  pub begun : Bool
 
 -- the row of a ship with its lockage: the pixels of its arrival and of the lockage's start and end, and up to which no break cuts the lockage
 pub record Row : Type 0 where
@@ -55,29 +58,33 @@ pub record Deck : Type 0 where
   pub lockage : ℕ
   pub ships : List DeckShip
 
--- all of them: the boxes of each chamber, the rows and the decks
+-- all of them: the boxes of each chamber, the rows and the decks; and the pixel of the line in lanes and rows, where there is one
 pub record Sheet : Type 0 where
   pub boxes : ℕ → List Box
   pub rows : List Row
   pub decks : List Deck
+  pub present : Option ℕ
 
 module _ (I : Instance) (P : Plan) (clock : Clock) where
   abbrev pub box_text : Box → List ℕ
   box_text b =
-      box_title I clock (passage_in I (day_of I P) b.number b.lockage (lockage_at P b.lockage))
-      ++ passage_box (lockage_at P b.lockage).way (b.left + 1) (box_width b.left b.right) 10 39 ++ filled (codes "</g>") []
+      box_title I clock b.begun (passage_in I (day_of I P) b.number b.lockage (lockage_at P b.lockage))
+      ++ passage_box (lockage_at P b.lockage).way (b.left + 1) (box_width b.left b.right) 10 39
+      ++ begun_frame b.begun (b.left + 1) (box_width b.left b.right) ++ filled (codes "</g>") []
 
-  abbrev pub row_picture_text : Row → List ℕ
-  row_picture_text r =
+  -- with the line at a pixel
+  abbrev pub row_picture_text : Option ℕ → Row → List ℕ
+  row_picture_text present r =
       wait_line r.arrives r.from ++ passage_box (lockage_at P r.lockage).way (r.from + 1) (box_width r.from r.to) 2 14
-      ++ filled (codes "<use href=\"#t\"/><circle class=\"m\" cx=\"%\" cy=\"8\" r=\"4\"/>") (r.arrives ∷ [])
+      ++ filled (codes "<use href=\"#t\"/>") [] ++ present_line present 16
+      ++ filled (codes "<circle class=\"m\" cx=\"%\" cy=\"8\" r=\"4\"/>") (r.arrives ∷ [])
       ++ row_number r.number (record { from = r.from; to = r.clear }) r.to
 
-  abbrev pub row_text : Row → List ℕ
-  row_text r =
+  abbrev pub row_text : Option ℕ → Row → List ℕ
+  row_text present r =
       row_name (ship_at I r.ship) ++ row_wait clock (ship_at I r.ship) (lockage_at P r.lockage).start
       ++ row_passage clock (chamber_at I (lockage_at P r.lockage).chamber).name (passage_in I (day_of I P) r.number r.lockage (lockage_at P r.lockage))
-      ++ row_picture_text r
+      ++ row_picture_text present r
       ++ filled (codes "</svg></td><td class=\"r\">") []
       ++ decimal (passage_end (passage_in I (day_of I P) r.number r.lockage (lockage_at P r.lockage)) - (ship_at I r.ship).arrival)
       ++ filled (codes "</td></tr>\n") []

@@ -9,17 +9,20 @@ use Rattle.lock_rules.specs.Arrival.{order_of}
 use Rattle.lock_rules.specs.Lines.{lockage_at, end_of}
 use Rattle.lock_rules.specs.Plan.{times_in}
 use Rattle.picture_page.specs.Axis.{Drawn, x_of}
+use Rattle.picture_page.specs.Present.{has_begun, present_x}
 use Rattle.picture_page.specs.Scales.{deck_scale, units_of}
 use Rattle.picture_laws.specs.Shapes.{Box, Row, DeckShip, Deck, Sheet}
 
 -- ---- the boxes
 
--- A box in the lane of chamber c is that of a lockage there, from its start to its end by the scale of the axis.
+-- A box in the lane of chamber c is that of a lockage there, from its start to its end by the scale of the axis,
+-- with a second outline where it has begun.
 pub record IsBoxOf (I : Instance) (P : Plan) (axis : Drawn) (c : ℕ) (b : Box) : Type 0 where
   pub known : b.lockage < length P.lockages
   pub lane : (lockage_at P b.lockage).chamber ≡ c
   pub left : b.left ≡ x_of axis (lockage_at P b.lockage).start
   pub right : b.right ≡ x_of axis (end_of I (lockage_at P b.lockage))
+  pub begun : b.begun ≡ has_begun axis.present (lockage_at P b.lockage).start
 
 -- how often the lockage at place p of the plan has a box among these
 abbrev pub boxes_of : ℕ → List Box → ℕ
@@ -71,8 +74,9 @@ pub record AreDecks (I : Instance) (P : Plan) (decks : List Deck) : Type 0 where
   pub once : (p : ℕ) → p < length P.lockages → times_in (map (λ d. d.lockage) decks) p ≡ 1
   pub each : All (IsDeckOf I P) decks
 
--- THE SHAPES SHOW THE PLAN.
+-- THE SHAPES SHOW THE PLAN, and the minute that it is where the axis has it.
 pub record ShowPlan (I : Instance) (P : Plan) (axis : Drawn) (sheet : Sheet) : Type 0 where
   pub boxes : AreBoxes I P axis sheet.boxes
   pub rows : AreRows I P axis sheet.rows
   pub decks : AreDecks I P sheet.decks
+  pub present : sheet.present ≡ present_x axis

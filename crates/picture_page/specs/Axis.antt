@@ -1,7 +1,10 @@
 -- The axis: pieces of time at one scale, with breaks of one width between them.
-use Rattle.std.specs.Prelude.{ℕ, ◌+◌, ◌*◌, ◌-◌, ◌/◌, List, [], ◌∷◌, length, min, max, Bool, false, ◌&&◌, ◌||◌, nat_le, nat_lt, if◌then◌else◌}
+use Rattle.std.specs.Prelude.{ℕ, ◌+◌, ◌*◌, ◌-◌, ◌/◌, List, [], ◌∷◌, length, min, max, Bool, false, ◌&&◌, ◌||◌, nat_le, nat_lt}
+use Rattle.std.specs.Prelude.{if◌then◌else◌}
+use Rattle.std.specs.declared.option.Option.{Option}
 use Rattle.picture_page.specs.Times.{offset_of}
 use Rattle.picture_page.specs.declared.times.Clock.{Clock}
+use Rattle.picture_page.specs.declared.times.Dial.{Dial}
 use Rattle.picture_page.specs.Capped.{plus, times}
 use Rattle.picture_page.specs.Spans.{spans_of, total_of, with_ends, first_of, last_of}
 use Rattle.picture_page.specs.Steps.{steps, first_step, round_down, round_up}
@@ -9,13 +12,15 @@ use Rattle.picture_page.specs.declared.pieces.Piece.{Piece}
 use Rattle.picture_page.specs.declared.pieces.AxisScale.{AxisScale}
 use Rattle.picture_page.specs.declared.spans.Span.{Span}
 
--- the pieces with their minutes and pixels, where breaks begin, the width of a break, the step from tick to tick, and how minutes are told
+-- the pieces with their minutes and pixels, where breaks begin, the width of a break, the step from tick to tick, how minutes are told,
+-- and the minute that it is, where the page shows it
 pub record Drawn : Type 0 where
   pub pieces : List Piece
   pub breaks : List ℕ
   pub gap : ℕ
   pub step : ℕ
   pub clock : Clock
+  pub present : Option ℕ
 
 -- n breaks have 28 pixels each, or all together at most 400
 abbrev pub gap_for : ℕ → ℕ
@@ -63,18 +68,19 @@ breaks_of (p ∷ []) = []
 breaks_of (p ∷ q ∷ ps) = p.right ∷ breaks_of (q ∷ ps)
 
 -- the axis that spans make
-unfoldable pub axis_of_spans : Clock → List Span → Drawn
-axis_of_spans clock spans = record {
-  pieces = pieces_of clock spans;
-  breaks = breaks_of (pieces_of clock spans);
+unfoldable pub axis_of_spans : Dial → List Span → Drawn
+axis_of_spans dial spans = record {
+  pieces = pieces_of dial.clock spans;
+  breaks = breaks_of (pieces_of dial.clock spans);
   gap = gap_for (breaks_in spans);
   step = step_of spans;
-  clock = clock;
+  clock = dial.clock;
+  present = dial.present;
 }
 
 -- THE AXIS of some events
-unfoldable pub axis_of : Clock → List ℕ → Drawn
-axis_of clock events = axis_of_spans clock (spans_of events)
+unfoldable pub axis_of : Dial → List ℕ → Drawn
+axis_of dial events = axis_of_spans dial (spans_of events)
 
 -- between minute a at pixel xa and minute b at pixel xb
 abbrev pub between : ℕ → ℕ → ℕ → ℕ → ℕ → ℕ

@@ -34,7 +34,8 @@ head_words name p =
 -- its times
 unfoldable pub head_times : Clock → Passage → List ℕ
 head_times clock p =
-    filled (codes "</strong></span><span>") [] ++ time_text clock p.start ++ filled (codes " &#8211; ") [] ++ time_text clock (passage_end p) ++ filled (codes "</span></h3>\n") []
+    filled (codes "</strong></span><span>") [] ++ time_text clock p.start ++ filled (codes " &#8211; ") [] ++ time_text clock (passage_end p)
+    ++ filled (codes "</span></h3>\n") []
 
 unfoldable pub card_head : Clock → List ℕ → Passage → List ℕ
 card_head clock name p = head_words name p ++ head_times clock p
@@ -69,7 +70,8 @@ deck_picture scale I l c =
 -- the letter, the name and the size of the ship at place k
 unfoldable pub list_ship : Ship → ℕ → List ℕ
 list_ship s k =
-    filled (codes "<tr><td>") [] ++ letter k ∷ [] ++ filled (codes "</td><td>") [] ++ s.name ++ cargo_mark s.cargo ++ filled (codes "</td><td class=\"v\">") [] ++ measures s.length s.width ++ filled (codes "</td>") []
+    filled (codes "<tr><td>") [] ++ letter k ∷ [] ++ filled (codes "</td><td>") [] ++ s.name ++ cargo_mark s.cargo
+    ++ filled (codes "</td><td class=\"v\">") [] ++ measures s.length s.width ++ filled (codes "</td>") []
 
 -- and how and where it lies
 unfoldable pub list_row : Instance → Lockage → ℕ → List ℕ

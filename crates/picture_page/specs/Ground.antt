@@ -1,5 +1,5 @@
 -- The ground of a lane: what is not open, turning or closed, and the water between the lockages.
-use Rattle.std.specs.Prelude.{ℕ, ◌+◌, ◌-◌, List, [], ◌∷◌, ◌++◌, ◌||◌, nat_le, nat_lt, Some, None, codes, if◌then◌else◌}
+use Rattle.std.specs.Prelude.{ℕ, ◌+◌, ◌-◌, List, [], ◌∷◌, ◌++◌, Bool, true, false, ◌||◌, nat_le, nat_lt, Some, None, codes, if◌then◌else◌}
 use Rattle.std.specs.declared.option.Option.{Option}
 use Rattle.std.specs.List.{flat_map}
 use Rattle.lock_model.specs.declared.chamber.Chamber.{Chamber}
@@ -12,6 +12,7 @@ use Rattle.picture_page.specs.Forms.{filled}
 use Rattle.picture_page.specs.Times.{time_text}
 use Rattle.picture_page.specs.declared.times.Clock.{Clock}
 use Rattle.picture_page.specs.Axis.{Drawn, x_of, first_minute, last_minute, shows}
+use Rattle.picture_page.specs.Present.{has_begun}
 use Rattle.picture_page.specs.Passages.{passage_end}
 use Rattle.picture_page.specs.declared.passage.Passage.{Passage}
 
@@ -28,15 +29,20 @@ closed_ground axis opens =
 abbrev pub ground : Drawn → ℕ → List ℕ
 ground axis opens = if nat_le opens (first_minute axis.pieces) then [] else (closed_ground axis opens)
 
--- the box of an empty turn
+-- the box of an empty turn, with a whole outline where it has begun and else with a broken one
+abbrev pub turn_form : Bool → List ℕ
+turn_form true = codes "</title><rect class=\"oq\" x=\"%\" y=\"10\" width=\"%\" height=\"29\"/></g>"
+turn_form false = codes "</title><rect class=\"o\" x=\"%\" y=\"10\" width=\"%\" height=\"29\"/></g>"
+
+-- the empty turn that begins at a minute and takes so many
 unfoldable pub turn_box : Drawn → ℕ → ℕ → List ℕ
-turn_box axis from to =
-    filled (codes "<g><title>empty turn") [] ++ span_text axis.clock from to
-    ++ filled (codes "</title><rect class=\"o\" x=\"%\" y=\"10\" width=\"%\" height=\"29\"/></g>") (x_of axis from ∷ (x_of axis to - x_of axis from) ∷ [])
+turn_box axis minute long =
+    filled (codes "<g><title>empty turn") [] ++ span_text axis.clock minute (minute + long)
+    ++ filled (turn_form (has_begun axis.present minute)) (x_of axis minute ∷ (x_of axis (minute + long) - x_of axis minute) ∷ [])
 
 unfoldable pub turn_ground : Drawn → ℕ → Option ℕ → List ℕ
 turn_ground axis long None = []
-turn_ground axis long (Some minute) = turn_box axis minute (minute + long)
+turn_ground axis long (Some minute) = turn_box axis minute long
 
 abbrev pub turn_of : Drawn → ℕ → Passage → List ℕ
 turn_of axis long p = turn_ground axis long p.turn
@@ -81,4 +87,5 @@ closure_of axis k = if shows axis.pieces k.from k.to then (closure_box axis k.fr
 -- the bar at the minute at which a chamber opens, where it is on the axis and not at its beginning
 unfoldable pub opening : Drawn → ℕ → List ℕ
 opening axis opens =
-    if nat_le opens (first_minute axis.pieces) || nat_lt (last_minute axis.pieces) opens then [] else (filled (codes "<path class=\"nb\" d=\"M% 6V43\"/>") (x_of axis opens ∷ []))
+    if nat_le opens (first_minute axis.pieces) || nat_lt (last_minute axis.pieces) opens then [] else
+    (filled (codes "<path class=\"nb\" d=\"M% 6V43\"/>") (x_of axis opens ∷ []))

@@ -44,15 +44,18 @@ hull_middle h = (h.top + h.bottom) / 2
 unfoldable pub outline : Way → Hull → List ℕ
 outline Up h =
     filled (codes "<path class=\"hu\" d=\"M% %H%L% %V%L% %H%Z\"/></g>")
-    ((h.near + 3) ∷ (h.top + 3) ∷ (h.far - 3 - bow_of h) ∷ (h.far - 3) ∷ (h.top + 3 + hull_width h / 3) ∷ (h.bottom - 3 - hull_width h / 3) ∷ (h.far - 3 - bow_of h) ∷ (h.bottom - 3) ∷ (h.near + 3) ∷ [])
+    ((h.near + 3) ∷ (h.top + 3) ∷ (h.far - 3 - bow_of h) ∷ (h.far - 3) ∷ (h.top + 3 + hull_width h / 3) ∷ (h.bottom - 3 - hull_width h / 3)
+    ∷ (h.far - 3 - bow_of h) ∷ (h.bottom - 3) ∷ (h.near + 3) ∷ [])
 outline Down h =
     filled (codes "<path class=\"hd\" d=\"M% %H%L% %V%L% %H%Z\"/></g>")
-    ((h.far - 3) ∷ (h.top + 3) ∷ (h.near + 3 + bow_of h) ∷ (h.near + 3) ∷ (h.top + 3 + hull_width h / 3) ∷ (h.bottom - 3 - hull_width h / 3) ∷ (h.near + 3 + bow_of h) ∷ (h.bottom - 3) ∷ (h.far - 3) ∷ [])
+    ((h.far - 3) ∷ (h.top + 3) ∷ (h.near + 3 + bow_of h) ∷ (h.near + 3) ∷ (h.top + 3 + hull_width h / 3) ∷ (h.bottom - 3 - hull_width h / 3)
+    ∷ (h.near + 3 + bow_of h) ∷ (h.bottom - 3) ∷ (h.far - 3) ∷ [])
 
 -- the hull of the ship at place k, with what it is in a sentence
 unfoldable pub hull_text : DeckScale → Instance → Lockage → ℕ → List ℕ
 hull_text scale I l k =
-    filled (codes "<g><title>") [] ++ (ship_of I l k).name ++ filled (codes ", ") [] ++ measures (ship_of I l k).length (ship_of I l k).width ++ filled (codes ", ") [] ++ berth_text I l k
+    filled (codes "<g><title>") [] ++ (ship_of I l k).name ++ filled (codes ", ") [] ++ measures (ship_of I l k).length (ship_of I l k).width
+    ++ filled (codes ", ") [] ++ berth_text I l k
     ++ filled (codes "</title>") [] ++ outline l.way (hull_of scale I l k)
 
 unfoldable pub hulls : DeckScale → Instance → Lockage → List ℕ

@@ -1,5 +1,6 @@
 -- The lanes: a row for each chamber.
-use Rattle.std.specs.Prelude.{ℕ, ◌+◌, ◌-◌, List, [], ◌∷◌, ◌++◌, length, max, Bool, codes, decimal}
+use Rattle.std.specs.Prelude.{ℕ, ◌+◌, ◌-◌, List, [], ◌∷◌, ◌++◌, length, max, Bool, true, false, Some, None, codes, decimal}
+use Rattle.std.specs.declared.option.Option.{Option}
 use Rattle.std.specs.List.{flat_map, range_with_len}
 use Rattle.lock_model.specs.Fleet.{ship_at, chamber_at}
 use Rattle.lock_model.specs.declared.chamber.Chamber.{Chamber}
@@ -7,26 +8,30 @@ use Rattle.lock_model.specs.declared.closure.Closure.{Closure}
 use Rattle.lock_model.specs.declared.instance.Instance.{Instance}
 use Rattle.instance_text.specs.Canonical.{way_word, stand_word}
 use Rattle.picture_page.specs.Forms.{filled}
-use Rattle.picture_page.specs.Shapes.{passage_box}
+use Rattle.picture_page.specs.Shapes.{passage_box, frame}
 use Rattle.picture_page.specs.Times.{time_text}
 use Rattle.picture_page.specs.Words.{measures, plural, count_text}
 use Rattle.picture_page.specs.declared.times.Clock.{Clock}
 use Rattle.picture_page.specs.Axis.{Drawn, x_of}
+use Rattle.picture_page.specs.Present.{has_begun, present_x, present_line}
 use Rattle.picture_page.specs.Passages.{passage_end, line_of}
 use Rattle.picture_page.specs.declared.passage.Passage.{Passage}
 use Rattle.picture_page.specs.Ground.{span_text, ground, water, closure_of, opening}
 use Rattle.picture_page.specs.Labels.{are_wide, labels, opens_label}
 
--- the axis in the head of a table
-unfoldable pub axis_head : List ℕ
-axis_head = codes "<svg width=\"812\" height=\"22\" aria-hidden=\"true\"><use href=\"#x\"/><use href=\"#A\"/></svg>"
+-- the axis in the head of a table, with room for a flag above it where the page shows the minute that it is
+abbrev pub axis_head : Option ℕ → List ℕ
+axis_head None = codes "<svg width=\"812\" height=\"22\" aria-hidden=\"true\"><use href=\"#x\"/><use href=\"#A\"/></svg>"
+axis_head (Some minute) =
+    codes "<svg width=\"812\" height=\"34\" aria-hidden=\"true\"><use href=\"#x\" y=\"12\"/><use href=\"#A\" y=\"12\"/><use href=\"#N\"/></svg>"
 
 unfoldable pub closed_text : Clock → Closure → List ℕ
 closed_text clock k = codes ", closed" ++ span_text clock k.from k.to
 
 -- a chamber's name and measures
 unfoldable pub lane_name : Chamber → List ℕ
-lane_name c = filled (codes "<tr><th scope=\"row\"><b>") [] ++ c.name ++ filled (codes "</b><small>") [] ++ measures c.length c.width ++ filled (codes "</small></th>") []
+lane_name c =
+    filled (codes "<tr><th scope=\"row\"><b>") [] ++ c.name ++ filled (codes "</b><small>") [] ++ measures c.length c.width ++ filled (codes "</small></th>") []
 
 -- what its picture shows, in a sentence, and the grid
 unfoldable pub lane_title : Clock → ℕ → Chamber → List ℕ
@@ -48,27 +53,43 @@ names I (s ∷ ss) = (ship_at I s).name ++ flat_map (next_name I) ss
 abbrev pub box_width : ℕ → ℕ → ℕ
 box_width from to = max (to - (from + 2)) 1
 
+-- that a lockage has begun
+abbrev pub begun_word : Bool → List ℕ
+begun_word true = codes ", begun,"
+begun_word false = []
+
 -- what a lockage is, in a sentence
-unfoldable pub box_title : Instance → Clock → Passage → List ℕ
-box_title I clock p =
-    filled (codes "<g><title>lockage % ") (p.number ∷ []) ++ way_word p.way ++ span_text clock p.start (passage_end p)
+unfoldable pub box_title : Instance → Clock → Bool → Passage → List ℕ
+box_title I clock begun p =
+    filled (codes "<g><title>lockage % ") (p.number ∷ []) ++ way_word p.way ++ begun_word begun ++ span_text clock p.start (passage_end p)
     ++ filled (codes ": ") [] ++ names I p.ships ++ filled (codes "</title>") []
 
--- the box of a lockage
+-- the second outline in a lane of a lockage that has begun
+abbrev pub begun_frame : Bool → ℕ → ℕ → List ℕ
+begun_frame true x width = frame x width 10 39
+begun_frame false x width = []
+
+-- the box of a lockage, with a second outline where it has begun
 unfoldable pub lockage_box : Instance → Drawn → Passage → List ℕ
 lockage_box I axis p =
-    box_title I axis.clock p
-    ++ passage_box p.way (x_of axis p.start + 1) (box_width (x_of axis p.start) (x_of axis (passage_end p))) 10 39 ++ filled (codes "</g>") []
+    box_title I axis.clock (has_begun axis.present p.start) p
+    ++ passage_box p.way (x_of axis p.start + 1) (box_width (x_of axis p.start) (x_of axis (passage_end p))) 10 39
+    ++ begun_frame (has_begun axis.present p.start) (x_of axis p.start + 1) (box_width (x_of axis p.start) (x_of axis (passage_end p)))
+    ++ filled (codes "</g>") []
 
 -- the picture of a chamber with these passages, up to the breaks
 unfoldable pub lane_ground : Drawn → Chamber → List Passage → List ℕ
 lane_ground axis c line = ground axis c.opens ++ water axis c line ++ flat_map (closure_of axis) c.closures ++ opening axis c.opens
 
--- what stands on the breaks, and the count of lockages
-unfoldable pub lane_end : Drawn → Bool → Chamber → List Passage → List ℕ
-lane_end axis wide c line =
-    filled (codes "<use href=\"#T\"/>") [] ++ labels axis wide 0 line ++ opens_label axis c.opens ++ filled (codes "</svg></td><td class=\"r\">") []
+-- the labels of a lane, and the count of lockages
+unfoldable pub lane_words : Drawn → Bool → Chamber → List Passage → List ℕ
+lane_words axis wide c line =
+    labels axis wide 0 line ++ opens_label axis c.opens ++ filled (codes "</svg></td><td class=\"r\">") []
     ++ decimal (length line) ++ filled (codes "</td></tr>\n") []
+
+-- the breaks of a lane, the line at the minute that it is, and what stands on them
+unfoldable pub lane_end : Drawn → Bool → Chamber → List Passage → List ℕ
+lane_end axis wide c line = filled (codes "<use href=\"#T\"/>") [] ++ present_line (present_x axis) 44 ++ lane_words axis wide c line
 
 -- the lane of a chamber with these passages
 unfoldable pub lane : Instance → Drawn → Bool → Chamber → List Passage → List ℕ
@@ -85,5 +106,6 @@ lanes I axis ps = flat_map (lane_at I axis ps) (range_with_len 0 (length I.chamb
 unfoldable pub chambers_table : Instance → Drawn → List Passage → List ℕ
 chambers_table I axis ps =
     filled (codes "<table class=\"t\" aria-label=\"chambers by time\">\n<thead><tr><th scope=\"col\">chamber") [] ++ plural (length I.chambers)
-    ++ filled (codes "</th><td>") [] ++ axis_head ++ filled (codes "</td><th scope=\"col\" class=\"r\">lockages</th></tr></thead>\n<tbody class=\"c\">\n") []
+    ++ filled (codes "</th><td>") [] ++ axis_head axis.present
+    ++ filled (codes "</td><th scope=\"col\" class=\"r\">lockages</th></tr></thead>\n<tbody class=\"c\">\n") []
     ++ lanes I axis ps ++ filled (codes "</tbody>\n</table>\n") []

@@ -1,12 +1,15 @@
 -- The legend, with entries for what the page shows.
-use Rattle.std.specs.Prelude.{ℕ, List, [], ◌∷◌, ◌++◌, Bool, false, ◌||◌, nat_lt, codes, if◌then◌else◌}
+use Rattle.std.specs.Prelude.{ℕ, List, [], ◌∷◌, ◌++◌, Bool, false, ◌||◌, nat_lt, Some, None, codes, if◌then◌else◌}
+use Rattle.std.specs.declared.option.Option.{Option}
 use Rattle.lock_model.specs.declared.chamber.Chamber.{Chamber}
 use Rattle.lock_model.specs.declared.closure.Closure.{Closure}
 use Rattle.lock_model.specs.declared.instance.Instance.{Instance}
 use Rattle.lock_model.specs.declared.ship.Ship.{Ship}
 use Rattle.lock_model.specs.declared.way.Way.TheVariants.{Up, Down}
 use Rattle.picture_page.specs.Forms.{filled}
-use Rattle.picture_page.specs.Shapes.{passage_box}
+use Rattle.picture_page.specs.Shapes.{passage_box, frame}
+use Rattle.picture_page.specs.Times.{time_text}
+use Rattle.picture_page.specs.declared.times.Clock.{Clock}
 use Rattle.picture_page.specs.Axis.{Drawn, first_minute, shows}
 
 -- an entry with a picture so wide
@@ -22,6 +25,17 @@ down_entry = entry 34 ++ passage_box Down 1 32 2 16 ++ codes "<use href=\"#d\" x
 unfoldable pub turn_entry : List ℕ
 turn_entry = entry 34 ++ codes "<rect class=\"o\" x=\"6\" y=\"2\" width=\"22\" height=\"14\"/><path class=\"l\" d=\"M0 2H6L28 16H34\"/></svg>empty turn</li>\n"
 
+-- lockages that have begun before a minute, and the minute that it is
+unfoldable pub begun_entry : Clock → ℕ → List ℕ
+begun_entry clock minute = entry 34 ++ passage_box Up 1 32 2 16 ++ frame 1 32 2 16 ++ codes "</svg>begun before " ++ time_text clock minute ++ codes "</li>\n"
+
+unfoldable pub present_entry : List ℕ
+present_entry = entry 16 ++ codes "<path class=\"y\" d=\"M8 0V18\"/></svg>now</li>\n"
+
+abbrev pub present_entries : Clock → Option ℕ → List ℕ
+present_entries clock None = []
+present_entries clock (Some minute) = begun_entry clock minute ++ present_entry
+
 -- a closure has a minute that isn't left out
 abbrev pub has_closure : Drawn → List Closure → Bool
 has_closure axis [] = false
@@ -32,7 +46,8 @@ has_closures axis [] = false
 has_closures axis (c ∷ cs) = has_closure axis c.closures || has_closures axis cs
 
 unfoldable pub closed_item : List ℕ
-closed_item = entry 30 ++ codes "<rect class=\"z\" x=\"1\" y=\"1\" width=\"28\" height=\"16\"/><rect class=\"zb\" x=\"1\" y=\"1\" width=\"28\" height=\"16\"/></svg>chamber closed</li>\n"
+closed_item =
+    entry 30 ++ codes "<rect class=\"z\" x=\"1\" y=\"1\" width=\"28\" height=\"16\"/><rect class=\"zb\" x=\"1\" y=\"1\" width=\"28\" height=\"16\"/></svg>chamber closed</li>\n"
 
 abbrev pub closed_entry : Drawn → List Chamber → List ℕ
 closed_entry axis cs = if has_closures axis cs then closed_item else []
@@ -62,7 +77,8 @@ break_entry (b ∷ bs) = break_item
 
 unfoldable pub moored_entry : List ℕ
 moored_entry =
-    entry 36 ++ filled (codes "<rect class=\"qy\" x=\"0\" y=\"1\" width=\"22\" height=\"8\"/><path class=\"hu\" style=\"stroke-width:1\" d=\"M0 10H22V17H0Z\"/>") []
+    entry 36
+    ++ filled (codes "<rect class=\"qy\" x=\"0\" y=\"1\" width=\"22\" height=\"8\"/><path class=\"hu\" style=\"stroke-width:1\" d=\"M0 10H22V17H0Z\"/>") []
     ++ filled (codes "<rect class=\"bo\" x=\"7\" y=\"3\" width=\"8\" height=\"3\"/><path class=\"p\" d=\"M11 5V11\"/>") []
     ++ filled (codes "<path class=\"p\" d=\"M31 5V13\"/><circle class=\"bo\" cx=\"31\" cy=\"5\" r=\"2\"/><circle class=\"bo\" cx=\"31\" cy=\"13\" r=\"2\"/>") []
     ++ filled (codes "</svg>moored to the quay, to another ship</li>\n") []
@@ -81,5 +97,6 @@ cargo_entry ships = if has_cargo ships then cargo_item else []
 -- THE LEGEND
 unfoldable pub legend : Instance → Drawn → List ℕ
 legend I axis =
-    filled (codes "<ul class=\"legend\" aria-label=\"legend\">\n") [] ++ up_entry ++ down_entry ++ turn_entry ++ closed_entry axis I.chambers ++ opens_entry axis I.chambers
-    ++ ship_entry ++ break_entry axis.breaks ++ moored_entry ++ cargo_entry I.ships ++ filled (codes "</ul>\n") []
+    filled (codes "<ul class=\"legend\" aria-label=\"legend\">\n") [] ++ up_entry ++ down_entry ++ turn_entry ++ present_entries axis.clock axis.present
+    ++ closed_entry axis I.chambers ++ opens_entry axis I.chambers ++ ship_entry ++ break_entry axis.breaks ++ moored_entry ++ cargo_entry I.ships
+    ++ filled (codes "</ul>\n") []

@@ -8,6 +8,7 @@ pub mod Spans
 pub mod Steps
 pub mod Axis
 pub mod Ticks
+pub mod Present
 pub mod Passages
 pub mod KnownPassages
 pub mod Shared

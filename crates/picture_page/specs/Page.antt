@@ -1,5 +1,6 @@
 -- The picture of a plan, as one page.
-use Rattle.std.specs.Prelude.{ℕ, ◌-◌, ◌^◌, List, [], ◌∷◌, ◌++◌, length, min, max, codes}
+use Rattle.std.specs.Prelude.{ℕ, ◌-◌, ◌^◌, List, [], ◌∷◌, ◌++◌, length, min, max, Some, None, codes}
+use Rattle.std.specs.declared.option.Option.{Option}
 use Rattle.lock_model.specs.declared.instance.Instance.{Instance}
 use Rattle.lock_model.specs.declared.plan.Plan.{Plan}
 use Rattle.lock_rules.specs.Plan.{cost_of}
@@ -8,6 +9,7 @@ use Rattle.picture_page.specs.Forms.{filled}
 use Rattle.picture_page.specs.Times.{time_text}
 use Rattle.picture_page.specs.Words.{plural, count_text}
 use Rattle.picture_page.specs.declared.times.Clock.{Clock}
+use Rattle.picture_page.specs.declared.times.Dial.{Dial}
 use Rattle.picture_page.specs.declared.times.Clock.TheVariants.{Minutes, Day}
 use Rattle.picture_page.specs.Axis.{Drawn, axis_of}
 use Rattle.picture_page.specs.Ticks.{ticks_of}
@@ -18,7 +20,7 @@ use Rattle.picture_page.specs.Lanes.{chambers_table}
 use Rattle.picture_page.specs.ShipRows.{ships_table}
 use Rattle.picture_page.specs.Legend.{legend}
 use Rattle.picture_page.specs.Cards.{cards}
-use Rattle.picture_page.specs.declared.style.TheConstants.{STYLE}
+use Rattle.picture_page.specs.declared.style.TheConstants.{STYLE, PRESENT_STYLE}
 use Rattle.picture_page.specs.declared.heads.Known.{Known}
 use Rattle.picture_page.specs.declared.heads.Known.TheVariants.{Legal, Optimal, Open}
 
@@ -45,11 +47,20 @@ verdict known cost = known_word known ++ codes ", total flow time " ++ count_tex
 unfoldable pub style_sheet : List ℕ
 style_sheet = filled STYLE.now []
 
+-- what it has besides where the page shows the minute that it is
+unfoldable pub present_rules : List ℕ
+present_rules = filled PRESENT_STYLE.now []
+
+abbrev pub present_style : Option ℕ → List ℕ
+present_style None = []
+present_style (Some minute) = present_rules
+
 -- the head of the page, with its style sheet
-unfoldable pub page_head : Known → ℕ → List ℕ
-page_head known cost =
+unfoldable pub page_head : Option ℕ → Known → ℕ → List ℕ
+page_head present known cost =
     filled (codes "<!DOCTYPE html>\n<html lang=\"en\">\n<head>\n<meta charset=\"utf-8\">\n<meta name=\"viewport\" content=\"width=device-width,initial-scale=1\">\n<title>glock: ") []
-    ++ verdict known cost ++ filled (codes "</title>\n<style>") [] ++ style_sheet ++ filled (codes "</style>\n</head>\n<body>\n<main>\n") []
+    ++ verdict known cost ++ filled (codes "</title>\n<style>") [] ++ style_sheet ++ present_style present
+    ++ filled (codes "</style>\n</head>\n<body>\n<main>\n") []
 
 -- the least and the greatest of some events
 abbrev pub least_of : List ℕ → ℕ
@@ -75,28 +86,31 @@ heading known cost = filled (codes "<h1>") [] ++ verdict known cost ++ filled (c
 unfoldable pub summary : Clock → Instance → ℕ → List ℕ → List ℕ
 summary clock I lockages events =
     event_span clock events ++ filled (codes " &#183; ") [] ++ count_text (length I.ships) (codes "ship")
-    ++ filled (codes " &#183; ") [] ++ count_text lockages (codes "lockage") ++ filled (codes " &#183; ") [] ++ count_text (length I.chambers) (codes "chamber") ++ filled (codes "</p>\n") []
+    ++ filled (codes " &#183; ") [] ++ count_text lockages (codes "lockage") ++ filled (codes " &#183; ") []
+    ++ count_text (length I.chambers) (codes "chamber") ++ filled (codes "</p>\n") []
 
 -- the timetable: chambers and ships along one axis
 unfoldable pub timetable : Instance → Drawn → List Passage → ℕ → List ℕ
 timetable I axis ps cost =
-    filled (codes "<div class=\"scroll\" tabindex=\"0\" role=\"region\" aria-label=\"timetable\">\n") [] ++ chambers_table I axis ps ++ ships_table I axis ps cost
+    filled (codes "<div class=\"scroll\" tabindex=\"0\" role=\"region\" aria-label=\"timetable\">\n") [] ++ chambers_table I axis ps
+    ++ ships_table I axis ps cost
     ++ filled (codes "</div>\n") [] ++ legend I axis
 
 -- the decks, and the end of the page
 unfoldable pub decks : Instance → Plan → Clock → List Passage → List ℕ
 decks I P clock ps =
-    filled (codes "<h2>deck plan") [] ++ plural (length ps) ++ filled (codes "</h2>\n<div class=\"cards\">\n") [] ++ cards I P clock ps ++ filled (codes "</div>\n</main>\n</body>\n</html>\n") []
+    filled (codes "<h2>deck plan") [] ++ plural (length ps) ++ filled (codes "</h2>\n<div class=\"cards\">\n") [] ++ cards I P clock ps
+    ++ filled (codes "</div>\n</main>\n</body>\n</html>\n") []
 
 -- a page on an axis
-unfoldable pub page_on : Known → Clock → Instance → Plan → List Passage → List ℕ → Drawn → List ℕ
-page_on known clock I P ps events axis =
-    page_head known (cost_of I P) ++ shared axis (ticks_of axis) ++ heading known (cost_of I P) ++ summary clock I (length ps) events
-    ++ timetable I axis ps (cost_of I P) ++ decks I P clock ps
+unfoldable pub page_on : Known → Dial → Instance → Plan → List Passage → List ℕ → Drawn → List ℕ
+page_on known dial I P ps events axis =
+    page_head dial.present known (cost_of I P) ++ shared axis (ticks_of axis) ++ heading known (cost_of I P) ++ summary dial.clock I (length ps) events
+    ++ timetable I axis ps (cost_of I P) ++ decks I P dial.clock ps
 
-abbrev pub page_with : Known → Clock → Instance → Plan → List Passage → List ℕ
-page_with known clock I P ps = page_on known clock I P ps (events_of I ps) (axis_of clock (events_of I ps))
+abbrev pub page_with : Known → Dial → Instance → Plan → List Passage → List ℕ
+page_with known dial I P ps = page_on known dial I P ps (events_of dial.present I ps) (axis_of dial (events_of dial.present I ps))
 
 -- THE PICTURE of a plan and its day
-unfoldable pub picture : Known → Clock → Instance → Plan → List Beat → List ℕ
-picture known clock I P day = page_with known clock I P (passages_of I P day)
+unfoldable pub picture : Known → Dial → Instance → Plan → List Beat → List ℕ
+picture known dial I P day = page_with known dial I P (passages_of I P day)

@@ -48,7 +48,8 @@ passage_in I day number place l = record {
 abbrev pub passages_from : Instance → Plan → List Beat → ℕ → List Beat → List Passage
 passages_from I P day number [] = []
 passages_from I P day number (b ∷ bs) =
-    if is_go b.act then (passage_in I day number b.lockage (lockage_at P b.lockage) ∷ passages_from I P day (number + 1) bs) else (passages_from I P day number bs)
+    if is_go b.act then (passage_in I day number b.lockage (lockage_at P b.lockage) ∷ passages_from I P day (number + 1) bs) else
+    (passages_from I P day number bs)
 
 -- THE PASSAGES of a day
 unfoldable pub passages_of : Instance → Plan → List Beat → List Passage
@@ -83,6 +84,11 @@ turn_events long (Some minute) = minute ∷ (minute + long) ∷ []
 abbrev pub passage_events : Instance → Passage → List ℕ
 passage_events I p = p.start ∷ passage_end p ∷ turn_events (chamber_at I p.chamber).turn p.turn
 
--- ALL EVENTS: arrivals, and beginnings and ends of lockages and empty turns
-unfoldable pub events_of : Instance → List Passage → List ℕ
-events_of I ps = flat_map (λ s. s.arrival ∷ []) I.ships ++ flat_map (passage_events I) ps
+-- the minute that it is, where the page shows it
+abbrev pub present_events : Option ℕ → List ℕ
+present_events None = []
+present_events (Some minute) = minute ∷ []
+
+-- ALL EVENTS: arrivals, beginnings and ends of lockages and empty turns, and the minute that it is
+unfoldable pub events_of : Option ℕ → Instance → List Passage → List ℕ
+events_of present I ps = flat_map (λ s. s.arrival ∷ []) I.ships ++ flat_map (passage_events I) ps ++ present_events present

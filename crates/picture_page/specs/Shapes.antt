@@ -18,7 +18,8 @@ arrow_at Down x y = filled (codes "<use href=\"#d\" x=\"%\" y=\"%\"/>") (x ∷ y
 unfoldable pub cargo_mark : ℕ → List ℕ
 cargo_mark cargo =
     if nat_eq cargo 0 then [] else
-    filled (codes "<svg class=\"k\" width=\"15\" height=\"15\"><title>cargo class %</title><use href=\"#k\"/><text x=\"7\" y=\"11\">%</text></svg>") (cargo ∷ cargo ∷ [])
+    filled (codes "<svg class=\"k\" width=\"15\" height=\"15\"><title>cargo class %</title><use href=\"#k\"/><text x=\"7\" y=\"11\">%</text></svg>")
+    (cargo ∷ cargo ∷ [])
 
 -- A passage from x on, so wide, between two heights: its ground, the water in it, which rises or falls, and its outline.
 unfoldable pub passage_box : Way → ℕ → ℕ → ℕ → ℕ → List ℕ
@@ -28,3 +29,8 @@ passage_box Up x width top bottom =
 passage_box Down x width top bottom =
     filled (codes "<rect class=\"b1\" x=\"%\" y=\"%\" width=\"%\" height=\"%\"/><path class=\"w1\" d=\"M% %H%L% %Z\"/><rect class=\"e1\" x=\"%\" y=\"%\" width=\"%\" height=\"%\"/>")
     (x ∷ top ∷ width ∷ (bottom - top) ∷ x ∷ bottom ∷ (x + width) ∷ x ∷ top ∷ x ∷ top ∷ width ∷ (bottom - top) ∷ [])
+
+-- a second outline, 3 pixels inside a box
+unfoldable pub frame : ℕ → ℕ → ℕ → ℕ → List ℕ
+frame x width top bottom =
+    filled (codes "<rect class=\"f0\" x=\"%\" y=\"%\" width=\"%\" height=\"%\"/>") ((x + 3) ∷ (top + 3) ∷ (width - 6) ∷ (bottom - (top + 6)) ∷ [])

@@ -6,6 +6,7 @@ use Rattle.picture_page.specs.Forms.{filled}
 use Rattle.picture_page.specs.Times.{time_text}
 use Rattle.picture_page.specs.declared.times.Clock.{Clock}
 use Rattle.picture_page.specs.Axis.{Drawn}
+use Rattle.picture_page.specs.Present.{present_flag}
 use Rattle.picture_page.specs.declared.ticks.Tick.{Tick}
 
 -- arrows up and down, and the mark of cargo
@@ -35,7 +36,8 @@ grids ticks =
 unfoldable pub break_shape : ℕ → ℕ → ℕ → ℕ → List ℕ
 break_shape middle half top bottom =
     filled (codes "<path class=\"tb\" d=\"M% %H%L% %H%Z\"/><path class=\"tl\" d=\"M% %L% %M% %L% %\"/>")
-    ((middle + 2 - half) ∷ top ∷ (middle + half + 2) ∷ (middle + half - 2) ∷ bottom ∷ (middle - (half + 2)) ∷ (middle + 2 - half) ∷ top ∷ (middle - (half + 2)) ∷ bottom ∷ (middle + half + 2) ∷ top ∷ (middle + half - 2) ∷ bottom ∷ [])
+    ((middle + 2 - half) ∷ top ∷ (middle + half + 2) ∷ (middle + half - 2) ∷ bottom ∷ (middle - (half + 2)) ∷ (middle + 2 - half) ∷ top
+    ∷ (middle - (half + 2)) ∷ bottom ∷ (middle + half + 2) ∷ top ∷ (middle + half - 2) ∷ bottom ∷ [])
 
 -- the break that begins at a pixel
 abbrev pub break_at : Drawn → ℕ → ℕ → ℕ → List ℕ
@@ -60,5 +62,5 @@ tick_text clock t = filled (codes "<path class=\"tl\" d=\"M% 17V22\"/>") (t.x �
 -- THE SHARED SHAPES
 unfoldable pub shared : Drawn → List Tick → List ℕ
 shared axis ticks =
-    signs ++ hatching ++ grids ticks ++ torn axis
+    signs ++ hatching ++ grids ticks ++ torn axis ++ present_flag axis axis.present
     ++ filled (codes "<g id=\"x\" class=\"x\">") [] ++ flat_map (tick_text axis.clock) ticks ++ filled (codes "</g>\n</defs></svg>\n") []

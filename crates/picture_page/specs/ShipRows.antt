@@ -12,6 +12,7 @@ use Rattle.picture_page.specs.Times.{time_text}
 use Rattle.picture_page.specs.Words.{plural, count_text}
 use Rattle.picture_page.specs.declared.times.Clock.{Clock}
 use Rattle.picture_page.specs.Axis.{Drawn, x_of}
+use Rattle.picture_page.specs.Present.{present_x, present_line}
 use Rattle.picture_page.specs.Passages.{passage_end, digits_of, has}
 use Rattle.picture_page.specs.declared.passage.Passage.{Passage}
 use Rattle.picture_page.specs.Ground.{span_text}
@@ -32,7 +33,8 @@ row_wait clock s start =
 -- which passage it takes, in a chamber of this name
 unfoldable pub row_passage : Clock → List ℕ → Passage → List ℕ
 row_passage clock name p =
-    filled (codes ", passes in lockage % of chamber ") (p.number ∷ []) ++ name ++ span_text clock p.start (passage_end p) ++ filled (codes "</title><use href=\"#g\"/>") []
+    filled (codes ", passes in lockage % of chamber ") (p.number ∷ []) ++ name ++ span_text clock p.start (passage_end p)
+    ++ filled (codes "</title><use href=\"#g\"/>") []
 
 -- the line of a wait between two pixels, where it has some
 unfoldable pub wait_line : ℕ → ℕ → List ℕ
@@ -49,7 +51,8 @@ unfoldable pub row_picture : Drawn → ℕ → Passage → List ℕ
 row_picture axis arrival p =
     wait_line (x_of axis arrival) (x_of axis p.start)
     ++ passage_box p.way (x_of axis p.start + 1) (box_width (x_of axis p.start) (x_of axis (passage_end p))) 2 14
-    ++ filled (codes "<use href=\"#t\"/><circle class=\"m\" cx=\"%\" cy=\"8\" r=\"4\"/>") (x_of axis arrival ∷ [])
+    ++ filled (codes "<use href=\"#t\"/>") [] ++ present_line (present_x axis) 16
+    ++ filled (codes "<circle class=\"m\" cx=\"%\" cy=\"8\" r=\"4\"/>") (x_of axis arrival ∷ [])
     ++ row_number p.number (stretch_of axis p) (x_of axis (passage_end p))
 
 -- the row of a ship with its passage: its flow time is at the end
@@ -74,5 +77,7 @@ rows I axis ps = flat_map (row_of I axis ps) (order_of I)
 unfoldable pub ships_table : Instance → Drawn → List Passage → ℕ → List ℕ
 ships_table I axis ps cost =
     filled (codes "<table class=\"t\" aria-label=\"ships by time\">\n<thead><tr><th scope=\"col\">ship") [] ++ plural (length I.ships)
-    ++ filled (codes "</th><td>") [] ++ axis_head ++ filled (codes "</td><th scope=\"col\" class=\"r\">flow time</th></tr></thead>\n<tbody class=\"s\">\n") []
-    ++ rows I axis ps ++ filled (codes "<tr class=\"f\"><th scope=\"row\">total</th><td></td><td class=\"r\">") [] ++ decimal cost ++ filled (codes "</td></tr>\n</tbody>\n</table>\n") []
+    ++ filled (codes "</th><td>") [] ++ axis_head axis.present
+    ++ filled (codes "</td><th scope=\"col\" class=\"r\">flow time</th></tr></thead>\n<tbody class=\"s\">\n") []
+    ++ rows I axis ps ++ filled (codes "<tr class=\"f\"><th scope=\"row\">total</th><td></td><td class=\"r\">") [] ++ decimal cost
+    ++ filled (codes "</td></tr>\n</tbody>\n</table>\n") []

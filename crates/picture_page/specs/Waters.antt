@@ -28,14 +28,16 @@ basin length width =
 unfoldable pub ends : DeckScale → Chamber → ℕ → List ℕ
 ends scale c width =
     if nat_eq c.end 0 then [] else
-    (filled (codes "<path class=\"ed\" d=\"M% 32V%M% 32V%\"/>") ((96 + units_of scale c.end) ∷ (32 + width) ∷ (96 + units_of scale (c.length - c.end)) ∷ (32 + width) ∷ []))
+    (filled (codes "<path class=\"ed\" d=\"M% 32V%M% 32V%\"/>") ((96 + units_of scale c.end) ∷ (32 + width) ∷ (96 + units_of scale (c.length - c.end))
+    ∷ (32 + width) ∷ []))
 
 unfoldable pub waters : DeckScale → Chamber → List ℕ
 waters scale c = basin (drawn scale c.length) (drawn scale c.width) ++ ends scale c (drawn scale c.width)
 
 -- the chamber's size in the middle, where it is long enough
 unfoldable pub chamber_size : Chamber → ℕ → ℕ → List ℕ
-chamber_size c middle base = filled (codes "<text class=\"ft gy mi\" x=\"%\" y=\"%\">") (middle ∷ base ∷ []) ++ measures c.length c.width ++ filled (codes "</text>") []
+chamber_size c middle base =
+    filled (codes "<text class=\"ft gy mi\" x=\"%\" y=\"%\">") (middle ∷ base ∷ []) ++ measures c.length c.width ++ filled (codes "</text>") []
 
 abbrev pub size_below : Chamber → ℕ → ℕ → List ℕ
 size_below c length base = if nat_lt length 500 then [] else (chamber_size c (96 + length / 2) base)

@@ -68,7 +68,8 @@ size_after s h r = if has_size s h r then (ship_size s) else []
 -- the letter and the name, and the size where it has room
 unfoldable pub letter_name : Ship → Hull → Room → ℕ → List ℕ
 letter_name s h r k =
-    filled (codes "<text class=\"mo") [] ++ letter_text h r.from k ++ filled (codes "<tspan class=\"nm\"> ") [] ++ s.name ++ size_after s h r ++ filled (codes "</tspan></text>") []
+    filled (codes "<text class=\"mo") [] ++ letter_text h r.from k ++ filled (codes "<tspan class=\"nm\"> ") [] ++ s.name ++ size_after s h r
+    ++ filled (codes "</tspan></text>") []
 
 -- nothing has room
 abbrev pub is_small : Hull → Bool

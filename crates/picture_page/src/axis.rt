@@ -1,12 +1,13 @@
 //! The axis.
 ghost use Rattle.std.specs.Prelude.{◌≡◌, ◌≤◌, ◌+◌, ◌-◌, ◌/◌, min, IfOk};
 ghost use Rattle.picture_page.specs.Axis.{axis_of_spans, axis_of, x_of, first_minute, last_minute, shows, clear_end};
+ghost use Rattle.picture_page.specs.Present.{has_begun, present_x};
 
 use crate::breaks::{TORN, clear_end, put_breaks};
 use crate::making::{breaks_in, gap_for, pieces_of, step_of};
 use crate::pieces::{LEFT, Piece, RIGHT, first_minute, last_minute, shows, x_among};
 use crate::spans::{Span, spans_of};
-use crate::times::Clock;
+use crate::times::{Clock, Dial};
 use std::alloc::{AllocError, Global};
 use std::marker::Model;
 
@@ -18,7 +19,7 @@ pub(crate) struct Axis {
     breaks: Vec<u16>,
     gap: u16,
     step: u64,
-    clock: Clock,
+    dial: Dial,
 }
 
 impl Model for Axis {
@@ -26,15 +27,22 @@ impl Model for Axis {
 
     ghost Value = { Drawn };
 
-    ghost view = { λ a. record { pieces = a.pieces.items; breaks = a.breaks.items; gap = a.gap; step = a.step; clock = a.clock } };
+    ghost view = { λ a. record {
+      pieces = a.pieces.items;
+      breaks = a.breaks.items;
+      gap = a.gap;
+      step = a.step;
+      clock = a.dial.clock;
+      present = a.dial.present;
+    } };
 }
 
 /// The axis that spans make.
 #[tactic(auto, unfolding(crate::specs::Axis::axis_of_spans))]
-fn axis_of_spans(alloc: Global, clock: Clock, spans: &[Span]) -> Result<Axis, AllocError>
-    ensures { IfOk result (λ axis. axis ≡ axis_of_spans clock spans.now) }
+fn axis_of_spans(alloc: Global, dial: Dial, spans: &[Span]) -> Result<Axis, AllocError>
+    ensures { IfOk result (λ axis. axis ≡ axis_of_spans dial spans.now) }
 {
-    let pieces = pieces_of(alloc, clock, spans)?;
+    let pieces = pieces_of(alloc, dial.clock, spans)?;
     let mut breaks = Vec::new(alloc);
     put_breaks(&mut breaks, pieces.as_slice())?;
     Ok(Axis {
@@ -42,19 +50,18 @@ fn axis_of_spans(alloc: Global, clock: Clock, spans: &[Span]) -> Result<Axis, Al
         breaks,
         gap: gap_for(breaks_in(spans)) as u16,
         step: step_of(spans),
-        clock,
+        dial,
     })
 }
 
 impl Axis {
-    /// The axis on which these events lie, whose minutes are told so. The only refusal is want of
-    /// memory.
+    /// The axis on which these events lie, with a dial. The only refusal is want of memory.
     #[tactic(auto, unfolding(crate::specs::Axis::axis_of))]
-    pub(crate) fn new(alloc: Global, clock: Clock, events: &[u64]) -> Result<Axis, AllocError>
-        ensures { IfOk result (λ axis. axis ≡ axis_of clock events.now) }
+    pub(crate) fn new(alloc: Global, dial: Dial, events: &[u64]) -> Result<Axis, AllocError>
+        ensures { IfOk result (λ axis. axis ≡ axis_of dial events.now) }
     {
         let spans = spans_of(alloc, events)?;
-        axis_of_spans(alloc, clock, spans.as_slice())
+        axis_of_spans(alloc, dial, spans.as_slice())
     }
 
     /// Where a minute lies.
@@ -70,7 +77,34 @@ impl Axis {
     pub(crate) fn clock(&self) -> Clock
         ensures { result ≡ self.now.clock }
     {
-        self.clock
+        self.dial.clock
+    }
+
+    /// The minute that it is, where the page shows it.
+    pub(crate) fn present(&self) -> Option<u32>
+        ensures { result ≡ self.now.present }
+    {
+        self.dial.present
+    }
+
+    /// Where that minute lies.
+    pub(crate) fn present_x(&self) -> Option<u16>
+        ensures { result ≡ present_x self.now }
+    {
+        match self.dial.present {
+            None => None,
+            Some(minute) => Some(self.x(minute as u64)),
+        }
+    }
+
+    /// Whether what begins at a minute has begun before the minute that it is.
+    pub(crate) fn has_begun(&self, minute: u32) -> bool
+        ensures { result ≡ has_begun self.now.present minute }
+    {
+        match self.dial.present {
+            None => false,
+            Some(present) => minute < present,
+        }
     }
 
     /// The minutes from tick to tick.

@@ -2,7 +2,8 @@
 ghost use Rattle.std.specs.Prelude.{◌≡◌, ◌≤◌, ◌<◌, ◌++◌, length, All, OnOk};
 ghost use Rattle.picture_page.specs.KnownPassages.{IsKnown};
 ghost use Rattle.picture_page.specs.Scales.{deck_scale};
-ghost use Rattle.picture_page.specs.Cards.{head_words, head_times, card_head, parting, title_ship, title_ships, height_of, card_title, deck_picture, list_ship, list_row, list_rows, card, card_of, cards};
+ghost use Rattle.picture_page.specs.Cards.{head_words, head_times, card_head, parting, title_ship, title_ships, height_of, card_title};
+ghost use Rattle.picture_page.specs.Cards.{deck_picture, list_ship, list_row, list_rows, card, card_of, cards};
 
 use crate::berths::{put_berth, ship_of, spot_of};
 use crate::form::{put_between, put_form};

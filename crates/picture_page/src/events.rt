@@ -1,7 +1,7 @@
 //! When something happens.
 ghost use Rattle.std.specs.Prelude.{◌≡◌, ◌<◌, [], ◌∷◌, ◌++◌, length, All, OnOk, IfOk};
 ghost use Rattle.std.specs.List.{flat_map};
-ghost use Rattle.picture_page.specs.Passages.{turn_events, passage_events, events_of};
+ghost use Rattle.picture_page.specs.Passages.{turn_events, passage_events, present_events, events_of};
 ghost use Rattle.picture_page.specs.KnownPassages.{HasChamber};
 
 use crate::passage::Passage;
@@ -57,19 +57,31 @@ fn put_all_events(
     Ok(())
 }
 
-/// All minutes at which something happens: arrivals of ships, and beginnings and ends of lockages and
-/// of empty turns. The only refusal is want of memory.
+/// Appends the minute that it is, where the page shows it.
+fn put_present(events: &mut Vec<u64>, present: Option<u32>) -> Result<(), AllocError>
+    ensures { OnOk result (events.new.items ≡ events.old.items ++ present_events present) }
+{
+    match present {
+        None => Ok(()),
+        Some(minute) => events.extend_from_slice(&[minute as u64]),
+    }
+}
+
+/// All minutes that aren't left out: arrivals of ships, beginnings and ends of lockages and of empty
+/// turns, and the minute that it is. The only refusal is want of memory.
 #[tactic(auto, unfolding(crate::specs::Passages::events_of))]
 pub(crate) fn events_of(
     alloc: Global,
+    present: Option<u32>,
     instance: &Instance,
     passages: &[Passage],
 ) -> Result<Vec<u64>, AllocError>
     requires { All (HasChamber instance.now) passages.now }
-    ensures { IfOk result (λ events. events.items ≡ events_of instance.now passages.now) }
+    ensures { IfOk result (λ events. events.items ≡ events_of present instance.now passages.now) }
 {
     let mut events = Vec::new(alloc);
     put_arrivals(&mut events, instance.ships.as_slice())?;
     put_all_events(&mut events, instance, passages)?;
+    put_present(&mut events, present)?;
     Ok(events)
 }

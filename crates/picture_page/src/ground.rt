@@ -1,7 +1,7 @@
 //! The ground of a lane: what is not open, turning or closed.
 ghost use Rattle.std.specs.Prelude.{◌≡◌, ◌<◌, ◌++◌, OnOk};
 ghost use Rattle.std.specs.List.{flat_map};
-ghost use Rattle.picture_page.specs.Ground.{span_text, closed_ground, ground, turn_box, turn_ground, turn_of, closure_box, closure_of, opening};
+ghost use Rattle.picture_page.specs.Ground.{span_text, closed_ground, ground, turn_form, turn_box, turn_ground, turn_of, closure_box, closure_of, opening};
 
 use crate::axis::Axis;
 use crate::form::put_form;
@@ -46,18 +46,31 @@ pub(crate) fn put_ground(out: &mut Vec<u8>, axis: &Axis, opens: u64) -> Result<(
     put_closed_ground(out, axis, opens)
 }
 
-/// Appends the box of an empty turn.
-#[tactic(auto, unfolding(crate::specs::Ground::turn_box))]
-fn put_turn_box(out: &mut Vec<u8>, axis: &Axis, from: u64, to: u64) -> Result<(), NoMemory>
-    ensures { OnOk result (out.new.items ≡ out.old.items ++ turn_box axis.now from to) }
+/// The box of an empty turn, with a whole outline where it has begun and else with a broken one.
+fn turn_form(begun: bool) -> &'static [u8]
+    ensures { result.now ≡ turn_form begun }
 {
+    if begun {
+        b"</title><rect class=\"oq\" x=\"%\" y=\"10\" width=\"%\" height=\"29\"/></g>"
+    } else {
+        b"</title><rect class=\"o\" x=\"%\" y=\"10\" width=\"%\" height=\"29\"/></g>"
+    }
+}
+
+/// Appends the box of an empty turn that begins at a minute and takes so many.
+#[tactic(auto, unfolding(crate::specs::Ground::turn_box))]
+fn put_turn_box(out: &mut Vec<u8>, axis: &Axis, minute: u32, long: u32) -> Result<(), NoMemory>
+    ensures { OnOk result (out.new.items ≡ out.old.items ++ turn_box axis.now minute long) }
+{
+    let from = minute as u64;
+    let to = from + long as u64;
     put_form(out, b"<g><title>empty turn", &[])?;
     put_span(out, axis.clock(), from, to)?;
     let left = axis.x(from) as u64;
     let right = axis.x(to) as u64;
     put_form(
         out,
-        b"</title><rect class=\"o\" x=\"%\" y=\"10\" width=\"%\" height=\"29\"/></g>",
+        turn_form(axis.has_begun(minute)),
         &[left, right.saturating_sub(left)],
     )
 }
@@ -74,7 +87,7 @@ fn put_turn_ground(
 {
     match turn {
         None => Ok(()),
-        Some(minute) => put_turn_box(out, axis, minute as u64, minute as u64 + long as u64),
+        Some(minute) => put_turn_box(out, axis, minute, long),
     }
 }
 

@@ -1,9 +1,10 @@
 //! The head and the heading of a page.
 ghost use Rattle.std.specs.Prelude.{◌≡◌, ◌++◌, OnOk};
-ghost use Rattle.picture_page.specs.Page.{known_word, low_words, bound_words, verdict, page_head, least_of, greatest_of, span_word, event_span, heading, summary};
+ghost use Rattle.picture_page.specs.Page.{known_word, low_words, bound_words, verdict, page_head};
+ghost use Rattle.picture_page.specs.Page.{least_of, greatest_of, span_word, event_span, heading, summary};
 
 use crate::form::put_form;
-use crate::style::put_style;
+use crate::style::{put_present_style, put_style};
 use crate::times::{Clock, put_time};
 use crate::words::put_count;
 use lock_model::Instance;
@@ -63,8 +64,13 @@ fn put_verdict(out: &mut Vec<u8>, known: Known, cost: u64) -> Result<(), NoMemor
 
 /// Appends the head of the page, with its style sheet.
 #[tactic(auto, unfolding(crate::specs::Page::page_head))]
-pub(crate) fn put_page_head(out: &mut Vec<u8>, known: Known, cost: u64) -> Result<(), NoMemory>
-    ensures { OnOk result (out.new.items ≡ out.old.items ++ page_head known cost) }
+pub(crate) fn put_page_head(
+    out: &mut Vec<u8>,
+    present: Option<u32>,
+    known: Known,
+    cost: u64,
+) -> Result<(), NoMemory>
+    ensures { OnOk result (out.new.items ≡ out.old.items ++ page_head present known cost) }
 {
     put_form(
         out,
@@ -74,6 +80,7 @@ pub(crate) fn put_page_head(out: &mut Vec<u8>, known: Known, cost: u64) -> Resul
     put_verdict(out, known, cost)?;
     put_form(out, b"</title>\n<style>", &[])?;
     put_style(out)?;
+    put_present_style(out, present)?;
     put_form(out, b"</style>\n</head>\n<body>\n<main>\n", &[])
 }
 

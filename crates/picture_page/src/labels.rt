@@ -1,6 +1,7 @@
 //! The labels of a lane: the numbers and the arrows of its lockages, and when it opens.
 ghost use Rattle.std.specs.Prelude.{◌≡◌, ◌≤◌, ◌<◌, ◌^◌, ◌++◌, OnOk};
-ghost use Rattle.picture_page.specs.Labels.{is_wide, are_wide, stance_of, side_by_side, stacked, narrow_arrow, fits_above, number_above, label_text, last_after, labels, has_opens, opens_text, opens_label};
+ghost use Rattle.picture_page.specs.Labels.{is_wide, are_wide, stance_of, side_by_side, stacked, narrow_arrow, fits_above, number_above};
+ghost use Rattle.picture_page.specs.Labels.{label_text, last_after, labels, has_opens, opens_text, opens_label};
 
 use crate::axis::Axis;
 use crate::form::put_form;

@@ -1,9 +1,11 @@
 //! The lanes: a row for each chamber.
-ghost use Rattle.std.specs.Prelude.{◌≡◌, ◌≤◌, ◌<◌, ◌++◌, length, All, OnOk};
+ghost use Rattle.std.specs.Prelude.{◌≡◌, ◌≤◌, ◌<◌, ◌^◌, ◌++◌, length, All, OnOk};
 ghost use Rattle.std.specs.List.{flat_map};
 ghost use Rattle.lock_model.specs.Fleet.{ship_at};
 ghost use Rattle.picture_page.specs.KnownPassages.{HasShips};
-ghost use Rattle.picture_page.specs.Lanes.{axis_head, closed_text, lane_name, lane_title, next_name, names, box_width, box_title, lockage_box, lane_ground, lane_end, lane, lane_at, lanes, chambers_table};
+ghost use Rattle.picture_page.specs.Lanes.{axis_head, closed_text, lane_name, lane_title, next_name, names, box_width};
+ghost use Rattle.picture_page.specs.Lanes.{begun_word, box_title, begun_frame, lockage_box};
+ghost use Rattle.picture_page.specs.Lanes.{lane_ground, lane_words, lane_end, lane, lane_at, lanes, chambers_table};
 
 use crate::axis::Axis;
 use crate::form::{put_between, put_form};
@@ -11,7 +13,8 @@ use crate::ground::{put_closures, put_ground, put_opening, put_span};
 use crate::labels::{are_wide, put_labels, put_opens};
 use crate::passage::Passage;
 use crate::passages::line_of;
-use crate::shapes::put_passage_box;
+use crate::present::put_present_line;
+use crate::shapes::{put_frame, put_passage_box};
 use crate::times::{Clock, put_time};
 use crate::water::put_water;
 use crate::words::{put_count, put_measures, put_plural};
@@ -21,15 +24,21 @@ use no_memory::NoMemory;
 use plain_text::{put, put_number};
 use std::alloc::Global;
 
-/// Appends the axis in the head of a table.
-#[tactic(auto, unfolding(crate::specs::Lanes::axis_head))]
-pub(crate) fn put_axis(out: &mut Vec<u8>) -> Result<(), NoMemory>
-    ensures { OnOk result (out.new.items ≡ out.old.items ++ axis_head) }
+/// Appends the axis in the head of a table, with room for a flag above it where the page shows the
+/// minute that it is.
+pub(crate) fn put_axis(out: &mut Vec<u8>, axis: &Axis) -> Result<(), NoMemory>
+    ensures { OnOk result (out.new.items ≡ out.old.items ++ axis_head axis.now.present) }
 {
-    put(
-        out,
-        b"<svg width=\"812\" height=\"22\" aria-hidden=\"true\"><use href=\"#x\"/><use href=\"#A\"/></svg>",
-    )
+    match axis.present() {
+        None => put(
+            out,
+            b"<svg width=\"812\" height=\"22\" aria-hidden=\"true\"><use href=\"#x\"/><use href=\"#A\"/></svg>",
+        ),
+        Some(_) => put(
+            out,
+            b"<svg width=\"812\" height=\"34\" aria-hidden=\"true\"><use href=\"#x\" y=\"12\"/><use href=\"#A\" y=\"12\"/><use href=\"#N\"/></svg>",
+        ),
+    }
 }
 
 /// Appends when a chamber is closed.
@@ -125,23 +134,44 @@ pub(crate) fn box_width(from: u16, to: u16) -> u64
     (to as u64).saturating_sub(from as u64 + 2).max(1)
 }
 
-/// Appends what a lockage is.
+/// Appends that a lockage has begun, where it has.
+fn put_begun_word(out: &mut Vec<u8>, begun: bool) -> Result<(), NoMemory>
+    ensures { OnOk result (out.new.items ≡ out.old.items ++ begun_word begun) }
+{
+    if begun { put(out, b", begun,") } else { Ok(()) }
+}
+
+/// Appends what a lockage is, which has begun or not.
 #[tactic(auto, unfolding(crate::specs::Lanes::box_title))]
 fn put_box_title(
     out: &mut Vec<u8>,
     instance: &Instance,
     clock: Clock,
+    begun: bool,
     passage: &Passage,
 ) -> Result<(), NoMemory>
     requires { HasShips instance.now passage.now }
-    ensures { OnOk result (out.new.items ≡ out.old.items ++ box_title instance.now clock passage.now) }
+    ensures { OnOk result (out.new.items ≡ out.old.items ++ box_title instance.now clock begun passage.now) }
 {
     put_form(out, b"<g><title>lockage % ", &[passage.number as u64])?;
     put(out, way_word(passage.way))?;
+    put_begun_word(out, begun)?;
     put_span(out, clock, passage.start as u64, passage.end())?;
     put_form(out, b": ", &[])?;
     put_names(out, instance, passage.ships.as_slice())?;
     put_form(out, b"</title>", &[])
+}
+
+/// Appends the second outline in a lane of a lockage that has begun.
+fn put_begun_frame(out: &mut Vec<u8>, begun: bool, x: u64, width: u64) -> Result<(), NoMemory>
+    requires { x < 2 ^ 32 }
+    ensures { OnOk result (out.new.items ≡ out.old.items ++ begun_frame begun x width) }
+{
+    if begun {
+        put_frame(out, x, width, 10, 39)
+    } else {
+        Ok(())
+    }
 }
 
 /// Appends the box of a lockage.
@@ -157,15 +187,11 @@ fn put_box(
 {
     let from = axis.x(passage.start as u64);
     let to = axis.x(passage.end());
-    put_box_title(out, instance, axis.clock(), passage)?;
-    put_passage_box(
-        out,
-        passage.way,
-        from as u64 + 1,
-        box_width(from, to),
-        10,
-        39,
-    )?;
+    let width = box_width(from, to);
+    let begun = axis.has_begun(passage.start);
+    put_box_title(out, instance, axis.clock(), begun, passage)?;
+    put_passage_box(out, passage.way, from as u64 + 1, width, 10, 39)?;
+    put_begun_frame(out, begun, from as u64 + 1, width)?;
     put_form(out, b"</g>", &[])
 }
 
@@ -201,7 +227,25 @@ fn put_lane_ground(
     put_opening(out, axis, chamber.opens as u64)
 }
 
-/// Appends what stands on the breaks, and the count of lockages.
+/// Appends the labels of a lane, and the count of lockages.
+#[tactic(auto, unfolding(crate::specs::Lanes::lane_words))]
+fn put_lane_words(
+    out: &mut Vec<u8>,
+    axis: &Axis,
+    wide: bool,
+    chamber: &Chamber,
+    line: &[Passage],
+) -> Result<(), NoMemory>
+    ensures { OnOk result (out.new.items ≡ out.old.items ++ lane_words axis.now wide chamber.now line.now) }
+{
+    put_labels(out, axis, wide, 0, line)?;
+    put_opens(out, axis, chamber.opens as u64)?;
+    put_form(out, b"</svg></td><td class=\"r\">", &[])?;
+    put_number(out, line.len() as u64)?;
+    put_form(out, b"</td></tr>\n", &[])
+}
+
+/// Appends the breaks of a lane, the line at the minute that it is, and what stands on them.
 #[tactic(auto, unfolding(crate::specs::Lanes::lane_end))]
 fn put_lane_end(
     out: &mut Vec<u8>,
@@ -213,11 +257,8 @@ fn put_lane_end(
     ensures { OnOk result (out.new.items ≡ out.old.items ++ lane_end axis.now wide chamber.now line.now) }
 {
     put_form(out, b"<use href=\"#T\"/>", &[])?;
-    put_labels(out, axis, wide, 0, line)?;
-    put_opens(out, axis, chamber.opens as u64)?;
-    put_form(out, b"</svg></td><td class=\"r\">", &[])?;
-    put_number(out, line.len() as u64)?;
-    put_form(out, b"</td></tr>\n", &[])
+    put_present_line(out, axis, 44)?;
+    put_lane_words(out, axis, wide, chamber, line)
 }
 
 /// Appends the lane of a chamber with these passages.
@@ -298,7 +339,7 @@ pub(crate) fn put_chambers(
     )?;
     put_plural(out, instance.chambers.as_slice().len() as u64)?;
     put_form(out, b"</th><td>", &[])?;
-    put_axis(out)?;
+    put_axis(out, axis)?;
     put_form(
         out,
         b"</td><th scope=\"col\" class=\"r\">lockages</th></tr></thead>\n<tbody class=\"c\">\n",

@@ -1,10 +1,13 @@
 //! The legend.
 ghost use Rattle.std.specs.Prelude.{◌≡◌, ◌++◌, OnOk};
-ghost use Rattle.picture_page.specs.Legend.{entry, up_entry, down_entry, turn_entry, has_closure, has_closures, closed_item, closed_entry, opens_later, opens_item, opens_entry, ship_entry, break_item, break_entry, moored_entry, has_cargo, cargo_item, cargo_entry, legend};
+ghost use Rattle.picture_page.specs.Legend.{entry, up_entry, down_entry, turn_entry, begun_entry, present_entry, present_entries};
+ghost use Rattle.picture_page.specs.Legend.{has_closure, has_closures, closed_item, closed_entry, opens_later, opens_item, opens_entry};
+ghost use Rattle.picture_page.specs.Legend.{ship_entry, break_item, break_entry, moored_entry, has_cargo, cargo_item, cargo_entry, legend};
 
 use crate::axis::Axis;
 use crate::form::put_form;
-use crate::shapes::put_passage_box;
+use crate::shapes::{put_frame, put_passage_box};
+use crate::times::{Clock, put_time};
 use lock_model::{Chamber, Closure, Instance, Ship, Way};
 use no_memory::NoMemory;
 use plain_text::put;
@@ -57,6 +60,41 @@ fn put_turn_entry(out: &mut Vec<u8>) -> Result<(), NoMemory>
         out,
         b"<rect class=\"o\" x=\"6\" y=\"2\" width=\"22\" height=\"14\"/><path class=\"l\" d=\"M0 2H6L28 16H34\"/></svg>empty turn</li>\n",
     )
+}
+
+/// Appends the entry of lockages that have begun before a minute.
+#[tactic(auto, unfolding(crate::specs::Legend::begun_entry))]
+fn put_begun_entry(out: &mut Vec<u8>, clock: Clock, minute: u64) -> Result<(), NoMemory>
+    ensures { OnOk result (out.new.items ≡ out.old.items ++ begun_entry clock minute) }
+{
+    put_entry(out, 34)?;
+    put_passage_box(out, Way::Up, 1, 32, 2, 16)?;
+    put_frame(out, 1, 32, 2, 16)?;
+    put(out, b"</svg>begun before ")?;
+    put_time(out, clock, minute)?;
+    put(out, b"</li>\n")
+}
+
+/// Appends the entry of the minute that it is.
+#[tactic(auto, unfolding(crate::specs::Legend::present_entry))]
+fn put_present_entry(out: &mut Vec<u8>) -> Result<(), NoMemory>
+    ensures { OnOk result (out.new.items ≡ out.old.items ++ present_entry) }
+{
+    put_entry(out, 16)?;
+    put(out, b"<path class=\"y\" d=\"M8 0V18\"/></svg>now</li>\n")
+}
+
+/// Appends the entries of what has begun and of the minute that it is, where the page shows it.
+fn put_present_entries(out: &mut Vec<u8>, axis: &Axis) -> Result<(), NoMemory>
+    ensures { OnOk result (out.new.items ≡ out.old.items ++ present_entries axis.now.clock axis.now.present) }
+{
+    match axis.present() {
+        None => Ok(()),
+        Some(minute) => {
+            put_begun_entry(out, axis.clock(), minute as u64)?;
+            put_present_entry(out)
+        }
+    }
 }
 
 /// Whether one of these closures has a minute that isn't left out.
@@ -250,6 +288,7 @@ pub(crate) fn put_legend(
     put_up_entry(out)?;
     put_down_entry(out)?;
     put_turn_entry(out)?;
+    put_present_entries(out, axis)?;
     put_closed_entry(out, axis, chambers)?;
     put_opens_entry(out, axis, chambers)?;
     put_ship_entry(out)?;

@@ -8,7 +8,8 @@
 //! Definitions, on which that contract rests: `specs/Forms`, `Times`, `Words` and `Shapes` (texts with
 //! places for numbers, and the small texts and shapes that they make), `Passages` (the lockages of the
 //! day, numbered as they begin, and all minutes at which something happens), `Capped`, `Points`, `Spans`,
-//! `Steps`, `Axis` and `Ticks` (where each minute lies, what is left out, and the ticks), `Shared`,
+//! `Steps`, `Axis` and `Ticks` (where each minute lies, what is left out, and the ticks), `Present` (the
+//! minute that it is, where the page shows it, and what has begun before it), `Shared`,
 //! `Ground`, `Labels`, `Lanes`, `ShipRows` and `Legend` (the timetable), `Scales`, `Waters`, `Berths`,
 //! `Hulls`, `Ties`, `Writing` and `Cards` (the decks), `Page` (the page of them all). The style sheet is
 //! the constant `STYLE`. Only private functions rest on `KnownPassages`: what passages name is in the
@@ -34,6 +35,7 @@ mod passage;
 mod passages;
 mod pieces;
 mod points;
+mod present;
 mod scales;
 mod shapes;
 mod shared;
@@ -52,4 +54,4 @@ mod writing;
 
 pub use heads::Known;
 pub use page::print_picture;
-pub use times::Clock;
+pub use times::{Clock, Dial};

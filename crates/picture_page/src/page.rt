@@ -17,7 +17,7 @@ use crate::passages::passages_of;
 use crate::shared::put_shared;
 use crate::ship_rows::put_ships;
 use crate::ticks::ticks_of;
-use crate::times::Clock;
+use crate::times::{Clock, Dial};
 use crate::words::put_plural;
 use chamber_times::cost;
 use day_play::{BEATS, Beat};
@@ -74,43 +74,44 @@ fn put_decks(
 fn page_with(
     alloc: Global,
     known: Known,
-    clock: Clock,
+    dial: Dial,
     instance: &Instance,
     plan: &Plan,
     passages: &[Passage],
 ) -> Result<Vec<u8>, NoMemory>
     requires legal { IsLegal instance.now plan.now }
     requires known { AreKnown instance.now plan.now passages.now }
-    ensures { IfOk result (λ page. page.items ≡ page_with known clock instance.now plan.now passages.now) }
+    ensures { IfOk result (λ page. page.items ≡ page_with known dial instance.now plan.now passages.now) }
 {
     let total = cost(instance, plan);
-    let events = events_of(alloc, instance, passages)?;
-    let axis = Axis::new(alloc, clock, events.as_slice())?;
+    let events = events_of(alloc, dial.present, instance, passages)?;
+    let axis = Axis::new(alloc, dial, events.as_slice())?;
     let ticks = ticks_of(alloc, &axis)?;
     let mut page = Vec::new(alloc);
-    put_page_head(&mut page, known, total)?;
+    put_page_head(&mut page, dial.present, known, total)?;
     put_shared(&mut page, &axis, ticks.as_slice())?;
     put_heading(&mut page, known, total)?;
     put_summary(
         &mut page,
-        clock,
+        dial.clock,
         instance,
         passages.len() as u64,
         events.as_slice(),
     )?;
     put_timetable(alloc, &mut page, instance, &axis, passages, total)?;
-    put_decks(&mut page, instance, plan, clock, passages)?;
+    put_decks(&mut page, instance, plan, dial.clock, passages)?;
     Ok(page)
 }
 
 /// The picture of a legal plan and its day, as one page of HTML: a lane for each chamber along the
-/// clock, a row for each ship, and the deck of each lockage drawn to scale. The caller says what is
-/// known of the plan. The only refusal is want of memory.
+/// clock, a row for each ship, and the deck of each lockage drawn to scale. Where the dial has the minute
+/// that it is, a line through lanes and rows shows it, and what has begun before it is drawn with other
+/// outlines. The caller says what is known of the plan. The only refusal is want of memory.
 #[tactic(auto, unfolding(crate::specs::Page::picture))]
 pub fn print_picture(
     alloc: Global,
     known: Known,
-    clock: Clock,
+    dial: Dial,
     instance: &Instance,
     plan: &Plan,
     day: &[Beat],
@@ -118,8 +119,8 @@ pub fn print_picture(
     requires legal { IsLegal instance.now plan.now }
     requires known { All (IsKnownGo plan.now) day.now }
     requires few { length day.now ≤ BEATS }
-    ensures { IfOk result (λ page. page.items ≡ picture known clock instance.now plan.now day.now) }
+    ensures { IfOk result (λ page. page.items ≡ picture known dial instance.now plan.now day.now) }
 {
     let passages = passages_of(alloc, instance, plan, day)?;
-    page_with(alloc, known, clock, instance, plan, passages.as_slice())
+    page_with(alloc, known, dial, instance, plan, passages.as_slice())
 }

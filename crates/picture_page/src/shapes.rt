@@ -1,6 +1,6 @@
 //! Small shapes: arrows, marks of cargo, and passages.
 ghost use Rattle.std.specs.Prelude.{◌≡◌, ◌++◌, ◌+◌, ◌<◌, ◌≤◌, ◌^◌, OnOk};
-ghost use Rattle.picture_page.specs.Shapes.{arrow, arrow_at, cargo_mark, passage_box};
+ghost use Rattle.picture_page.specs.Shapes.{arrow, arrow_at, cargo_mark, passage_box, frame};
 
 use crate::form::put_form;
 use lock_model::Way;
@@ -83,4 +83,30 @@ pub(crate) fn put_passage_box(
             ],
         ),
     }
+}
+
+/// Appends a second outline, 3 pixels inside a box that begins at `x`, is so wide, and lies between two
+/// heights. A box of 6 pixels or fewer shows none.
+#[tactic(auto, unfolding(crate::specs::Shapes::frame))]
+pub(crate) fn put_frame(
+    out: &mut Vec<u8>,
+    x: u64,
+    width: u64,
+    top: u64,
+    bottom: u64,
+) -> Result<(), NoMemory>
+    requires left { x < 2 ^ 32 }
+    requires high { top < 2 ^ 32 }
+    ensures { OnOk result (out.new.items ≡ out.old.items ++ frame x width top bottom) }
+{
+    put_form(
+        out,
+        b"<rect class=\"f0\" x=\"%\" y=\"%\" width=\"%\" height=\"%\"/>",
+        &[
+            x + 3,
+            top + 3,
+            width.saturating_sub(6),
+            bottom.saturating_sub(top + 6),
+        ],
+    )
 }

@@ -5,6 +5,7 @@ ghost use Rattle.picture_page.specs.Shared.{signs, hatching, grid_line, grids, b
 
 use crate::axis::Axis;
 use crate::form::put_form;
+use crate::present::put_present_flag;
 use crate::ticks::Tick;
 use crate::times::{Clock, put_time};
 use no_memory::NoMemory;
@@ -201,6 +202,7 @@ pub(crate) fn put_shared(out: &mut Vec<u8>, axis: &Axis, ticks: &[Tick]) -> Resu
     put_hatching(out)?;
     put_grids(out, ticks)?;
     put_torn(out, axis)?;
+    put_present_flag(out, axis)?;
     put_form(out, b"<g id=\"x\" class=\"x\">", &[])?;
     put_tick_texts(out, axis.clock(), ticks)?;
     put_form(out, b"</g>\n</defs></svg>\n", &[])

@@ -8,6 +8,7 @@ use crate::form::{put_between, put_form};
 use crate::ground::put_span;
 use crate::lanes::{box_width, put_axis};
 use crate::passage::Passage;
+use crate::present::put_present_line;
 use crate::shapes::{put_arrow, put_cargo, put_passage_box};
 use crate::stretch::{Stretch, stretch_of};
 use crate::times::{Clock, put_time};
@@ -130,9 +131,11 @@ fn put_row_picture(
         2,
         14,
     )?;
+    put_form(out, b"<use href=\"#t\"/>", &[])?;
+    put_present_line(out, axis, 16)?;
     put_form(
         out,
-        b"<use href=\"#t\"/><circle class=\"m\" cx=\"%\" cy=\"8\" r=\"4\"/>",
+        b"<circle class=\"m\" cx=\"%\" cy=\"8\" r=\"4\"/>",
         &[here as u64],
     )?;
     put_row_number(out, passage, &stretch_of(axis, passage), to)
@@ -223,7 +226,7 @@ pub(crate) fn put_ships(
     )?;
     put_plural(out, instance.ships.as_slice().len() as u64)?;
     put_form(out, b"</th><td>", &[])?;
-    put_axis(out)?;
+    put_axis(out, axis)?;
     put_form(
         out,
         b"</td><th scope=\"col\" class=\"r\">flow time</th></tr></thead>\n<tbody class=\"s\">\n",

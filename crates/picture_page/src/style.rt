@@ -1,6 +1,6 @@
 //! The style sheet.
 ghost use Rattle.std.specs.Prelude.{◌≡◌, ◌++◌, OnOk};
-ghost use Rattle.picture_page.specs.Page.{style_sheet};
+ghost use Rattle.picture_page.specs.Page.{style_sheet, present_rules, present_style};
 
 use crate::form::put_form;
 use no_memory::NoMemory;
@@ -75,4 +75,28 @@ pub(crate) fn put_style(out: &mut Vec<u8>) -> Result<(), NoMemory>
     ensures { OnOk result (out.new.items ≡ out.old.items ++ style_sheet) }
 {
     put_form(out, STYLE, &[])
+}
+
+/// What the style sheet has besides where the page shows the minute that it is.
+pub(crate) const PRESENT_STYLE: &[u8] = b"\
+.y{fill:none;stroke:#16212b;stroke-width:2}\n\
+.f0{fill:none;stroke:#16212b;stroke-width:1}\n\
+.oq{fill:#fff;stroke:#5b6a77;stroke-width:1}\n\
+";
+
+/// Appends that.
+fn put_present_rules(out: &mut Vec<u8>) -> Result<(), NoMemory>
+    ensures { OnOk result (out.new.items ≡ out.old.items ++ present_rules) }
+{
+    put_form(out, PRESENT_STYLE, &[])
+}
+
+/// Appends that, where the page shows the minute that it is.
+pub(crate) fn put_present_style(out: &mut Vec<u8>, present: Option<u32>) -> Result<(), NoMemory>
+    ensures { OnOk result (out.new.items ≡ out.old.items ++ present_style present) }
+{
+    match present {
+        None => Ok(()),
+        Some(_) => put_present_rules(out),
+    }
 }

@@ -1,6 +1,7 @@
 //! The ticks of an axis, and which of them have labels.
 ghost use Rattle.std.specs.Prelude.{◌≡◌, ◌≤◌, ◌++◌, OnOk, IfOk};
-ghost use Rattle.picture_page.specs.Ticks.{mark_at, multiples_to, multiples, marks_between, limit_before, marks_of, marks_from, half_of, left_of, label_middle, label_of, free_after, ticks_from, ticks_of};
+ghost use Rattle.picture_page.specs.Ticks.{mark_at, multiples_to, multiples, marks_between, limit_before, marks_of, marks_from, half_of};
+ghost use Rattle.picture_page.specs.Ticks.{left_of, label_middle, label_of, free_after, ticks_from, ticks_of};
 
 use crate::axis::Axis;
 use crate::pieces::Piece;
@@ -9,7 +10,7 @@ use crate::times::{Clock, time_width};
 use std::alloc::{AllocError, Global};
 
 /// The width of a row's picture, in pixels.
-const PLOT: u16 = 812;
+pub(crate) const PLOT: u16 = 812;
 
 /// A tick at a minute and a pixel, and the middle of its label where it has one.
 #[derive(Clone, Copy)]

@@ -28,6 +28,13 @@ impl Clock {
     }
 }
 
+/// How minutes are told, and the minute that it is, where a page is to show it.
+#[derive(Clone, Copy)]
+pub struct Dial {
+    pub clock: Clock,
+    pub present: Option<u32>,
+}
+
 /// The minutes of a day.
 const DAY: u64 = 1440;
 

@@ -1,6 +1,8 @@
 //! What is written in the hulls of a deck.
 ghost use Rattle.std.specs.Prelude.{◌≡◌, ◌≤◌, ◌<◌, ◌^◌, ◌++◌, length, All, OnOk};
-ghost use Rattle.picture_page.specs.Writing.{room_in, is_marked, mark, room_after, em_of, font_of, base_of, letter_text, letter_alone, has_size, ship_size, size_after, letter_name, is_small, is_narrow, words, writing_in, writing_at, writing};
+ghost use Rattle.picture_page.specs.Writing.{room_in, is_marked, mark, room_after, em_of, font_of, base_of, letter_text, letter_alone};
+ghost use Rattle.picture_page.specs.Writing.{has_size, ship_size, size_after, letter_name, is_small, is_narrow, words, writing_in};
+ghost use Rattle.picture_page.specs.Writing.{writing_at, writing};
 
 use crate::berths::ship_of;
 use crate::form::put_form;

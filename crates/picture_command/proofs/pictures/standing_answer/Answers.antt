@@ -11,5 +11,5 @@ returns c =
     let known = c.known_of-known.result in
     let answer = c.plan_page.result in
     let plan = ap (λ (C : Certificate). C.plan) c.certificate.view_is in
-    let told = subst (λ P. TellsPicture c.args.clock known d.instance P answer.status (bytes_in answer.text)) plan c.plan_page.ensures in
-    open_pictured c.args.clock c.args.bytes.now d.instance d.certificate d.low known answer.status (bytes_in answer.text) c.requires.standing c.requires.low c.known_of-known.ensures told
+    let told = subst (λ P. TellsPicture c.args.dial known d.instance P answer.status (bytes_in answer.text)) plan c.plan_page.ensures in
+    open_pictured c.args.dial c.args.bytes.now d.instance d.certificate d.low known answer.status (bytes_in answer.text) c.requires.standing c.requires.low c.known_of-known.ensures told

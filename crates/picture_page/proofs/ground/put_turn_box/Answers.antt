@@ -11,6 +11,8 @@ returns c =
       c.in_ok-put_span.ensures,
       c.in_ok-put_form.ensures,
       c.clock.ensures,
+      c.turn_form.ensures,
+      c.has_begun.ensures,
       c.saturating_sub.ensures,
       c.x-left.ensures.value,
       c.x-right.ensures.value,

@@ -7,4 +7,4 @@ pub returns : goal.returns
 unfolding page_head
 returns c =
     IfOk-equal c.put_form-3.result _ _ _ c.put_form-3.ensures
-    (rw (c.in_ok-put_style.ensures, c.in_ok-put_form-2.ensures, c.in_ok-put_verdict.ensures, c.in_ok-put_form.ensures) (simp append_assoc))
+    (rw (c.in_ok-put_present_style.ensures, c.in_ok-put_style.ensures, c.in_ok-put_form-2.ensures, c.in_ok-put_verdict.ensures, c.in_ok-put_form.ensures) (simp append_assoc))

@@ -11,6 +11,7 @@ returns c =
       c.in_ok-put_names.ensures,
       c.in_ok-put_form-2.ensures,
       c.in_ok-put_span.ensures,
+      c.in_ok-put_begun_word.ensures,
       c.in_ok-put.ensures,
       c.in_ok-put_form.ensures,
       c.way_word.ensures,

@@ -6,11 +6,5 @@ use Rattle.picture_page.proofs.lanes.put_lane_end.Goals as goal
 pub returns : goal.returns
 unfolding lane_end
 returns c =
-    IfOk-equal c.put_form-3.result _ _ _ c.put_form-3.ensures
-    (rw (
-      c.in_ok-put_number.ensures,
-      c.in_ok-put_form-2.ensures,
-      c.in_ok-put_opens.ensures,
-      c.in_ok-put_labels.ensures,
-      c.in_ok-put_form.ensures,
-    ) (simp append_assoc))
+    IfOk-equal c.put_lane_words.result _ _ _ c.put_lane_words.ensures
+    (rw (c.in_ok-put_present_line.ensures, c.in_ok-put_form.ensures) (simp append_assoc))

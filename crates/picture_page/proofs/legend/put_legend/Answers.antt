@@ -14,6 +14,7 @@ returns c =
       c.in_ok-put_ship_entry.ensures,
       c.in_ok-put_opens_entry.ensures,
       c.in_ok-put_closed_entry.ensures,
+      c.in_ok-put_present_entries.ensures,
       c.in_ok-put_turn_entry.ensures,
       c.in_ok-put_down_entry.ensures,
       c.in_ok-put_up_entry.ensures,

@@ -10,6 +10,7 @@ returns c =
     (rw (
       c.in_ok-put_tick_texts.ensures,
       c.in_ok-put_form.ensures,
+      c.in_ok-put_present_flag.ensures,
       c.in_ok-put_torn.ensures,
       c.in_ok-put_grids.ensures,
       c.in_ok-put_hatching.ensures,
