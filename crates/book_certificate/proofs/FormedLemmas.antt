@@ -32,7 +32,7 @@ use Rattle.book_rules.specs.States.{KeepsStates}
 use Rattle.closing_rules.specs.ProvedCuts.{IsProved}
 use Rattle.closing_rules.specs.ListedPrices.{ArePrices, AreShapedPrices}
 use Rattle.certificate_rules.specs.declared.numbering.Numbering.TheVariants.{Few, Many}
-use Rattle.certificate_rules.specs.WellFormed.{numbering_of, probed_ships, most_listed, IsFormedReason, IsFormedRefutation, IsFormedCut, IsFormedLockage, AreFormedPrices, IsFormedGround}
+use Rattle.certificate_rules.specs.WellFormed.{numbering_of, probed_ships, most_lockages, IsFormedReason, IsFormedRefutation, IsFormedCut, IsFormedLockage, AreFormedPrices, IsFormedGround}
 use Rattle.lock_rules.proofs.AmongLemmas.{contains-times}
 use Rattle.book_rules.proofs.MoveLemmas.{TellsAt}
 use Rattle.book_rules.proofs.StateLemmas.{state-tells}
@@ -88,17 +88,17 @@ few-lockages I P legal = omega (arith, few_lockages I P.lockages legal.lockage, 
 -- ---- what the ships of an instance set
 
 -- no more than there are ships are few enough to be listed
-listed : (ships : List Ship) (n : ℕ) → n ≤ length ships → n ≤ most_listed ships
-unfolding most_listed
+listed : (ships : List Ship) (n : ℕ) → n ≤ length ships → n ≤ most_lockages ships
+unfolding most_lockages
 listed ships n low = elim (leb_tells (suc FEW_SHIPS) (length ships)) [
   | inl large ↦ subst (λ t. n ≤ cond t (length ships) FEW_SHIPS) (sym large.0) low
   | inr small ↦ subst (λ t. n ≤ cond t (length ships) FEW_SHIPS) (sym small.0) (omega (arith, low, small.1))
 ]
 
-pub plan-listed : (I : Instance) (P : Plan) → IsLegal I P → length P.lockages ≤ most_listed I.ships
+pub plan-listed : (I : Instance) (P : Plan) → IsLegal I P → length P.lockages ≤ most_lockages I.ships
 plan-listed I P legal = listed I.ships (length P.lockages) (few-lockages I P legal)
 
-pub prices-formed : (I : Instance) (prices : List ℕ) → ArePrices prices → AreShapedPrices I prices → AreFormedPrices (most_listed I.ships) prices
+pub prices-formed : (I : Instance) (prices : List ℕ) → ArePrices prices → AreShapedPrices I prices → AreFormedPrices (most_lockages I.ships) prices
 prices-formed I prices are shaped =
     let count = shaped.count in
     let some = I.limits.ship_count.0 in

@@ -21,7 +21,7 @@ use Rattle.closing_rules.specs.ProvedCuts.{IsProved}
 use Rattle.closing_rules.specs.ListedPrices.{ArePrices, AreShapedPrices}
 use Rattle.certificate_rules.specs.Certificates.{Certificate, EndsNode, IsMarkTree, Stands, IsNoOpenLeaf, HasNoOpenLeaf, Accepts}
 use Rattle.certificate_rules.specs.Low.{HasOpen, IsLow}
-use Rattle.certificate_rules.specs.WellFormed.{numbering_of, most_listed, IsFormedCut, AreFormedPrices, IsFormedMark, IsWellFormed}
+use Rattle.certificate_rules.specs.WellFormed.{numbering_of, most_lockages, IsFormedCut, AreFormedPrices, IsFormedMark, IsWellFormed}
 use Rattle.book_rules.proofs.CheapLemmas.{count-some}
 use Rattle.book_certificate.specs.Certified.{cert_cut}
 use Rattle.book_certificate.proofs.FormedLemmas.{own-formed, own-proved, legal-formed, plan-listed, prices-formed, ground-formed}
@@ -141,8 +141,8 @@ module _ (b : Book) (keeps : KeepsBook b) (parts : KeepsParts b) (C : Certificat
       few = plan-listed I C.plan is-standing.legal;
       cuts = subst (All IsFormedCut) (sym is.cuts) (All-map IsFormedCut cert_cut b.cuts (λ k d known. own-formed (slice_index_or b.cuts k d) (keeps.cuts k d known).0));
       prices =
-          subst (All (AreFormedPrices (most_listed I.ships))) (sym is.prices)
-          (All-weaker (λ u. ArePrices u × AreShapedPrices I u) (AreFormedPrices (most_listed I.ships)) (λ u own. prices-formed I u own.0 own.1) b.prices keeps.prices);
+          subst (All (AreFormedPrices (most_lockages I.ships))) (sym is.prices)
+          (All-weaker (λ u. ArePrices u × AreShapedPrices I u) (AreFormedPrices (most_lockages I.ships)) (λ u own. prices-formed I u own.0 own.1) b.prices keeps.prices);
       lockages = λ k d known. legal-formed I (slice_index_or C.plan.lockages k d) (is-standing.legal.lockage k d known);
       marks = subst (All IsFormed) (sym is.marks) (All-map IsFormed (mark_at b) slots (all-among (λ id. IsFormed (mark_at b id)) slots (λ id h. mark-formed id (visited-known b parts.family (length I.ships) 0 parts.family.some id h))));
     }

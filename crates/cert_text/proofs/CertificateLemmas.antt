@@ -10,7 +10,8 @@ use Rattle.lock_model.specs.declared.plan.Plan.{Plan}
 use Rattle.closing_rules.specs.ProvedCuts.{CertCut}
 use Rattle.certificate_rules.specs.declared.certificate.Mark.{Mark}
 use Rattle.certificate_rules.specs.Certificates.{Certificate}
-use Rattle.certificate_rules.specs.WellFormed.{numbering_of, most_listed, AreFormedPrices, IsFormedMark, IsWellFormed}
+use Rattle.certificate_rules.specs.WellFormed.{numbering_of, AreFormedPrices, IsFormedMark, IsWellFormed}
+use Rattle.lock_model.specs.Fleet.{most_lockages}
 use Rattle.cert_text.specs.declared.heading.Form.{Form}
 use Rattle.cert_text.specs.declared.heading.Version.{Version}
 use Rattle.cert_text.specs.declared.heading.Version.TheVariants.{First, Second, Third}
@@ -45,7 +46,7 @@ module _ (form : Form) (ships : List Ship) where
 
   -- the object of parts of this form that suit a version is read as the certificate
   parts_back : (version : Version) (C : Certificate) → Suits version C.cuts C.prices (list_any is_price_mark C.tree) → All (IsFormedMark (numbering_of ships)) C.tree → AreOf form C.tree
-      → All (AreFormedPrices (most_listed ships)) C.prices → cuts_in (cuts_data C.cuts) ≡ Some C.cuts → plan_in (most_listed ships) (plan_data C.plan) ≡ Some C.plan
+      → All (AreFormedPrices (most_lockages ships)) C.prices → cuts_in (cuts_data C.cuts) ≡ Some C.cuts → plan_in (most_lockages ships) (plan_data C.plan) ≡ Some C.plan
       → certificate_in form ships version (parts_data version C.cost C.cuts C.plan C.prices (marks_data C.tree)) ≡ Ok C
   unfolding certificate_in front_in serde_json_on_literals
   parts_back version C suits marks own formed cuts plan =
@@ -55,7 +56,7 @@ module _ (form : Form) (ships : List Ship) where
           → certificate_in form ships v (parts_data v C.cost C.cuts C.plan C.prices (marks_data C.tree)) ≡ Ok C
       go First suits own back = rw (own, plan, back) (ap (λ ps. Ok (record { cost = C.cost; cuts = C.cuts; plan = C.plan; prices = ps; tree = C.tree })) (sym (suits.unpriced refl)))
       go Second suits own back = rw (own, plan, back) (ap (λ ps. Ok (record { cost = C.cost; cuts = C.cuts; plan = C.plan; prices = ps; tree = C.tree })) (sym (suits.unpriced refl)))
-      go Third suits own back = rw (own, plan, back, lists_back C.prices (most_listed ships) formed) refl
+      go Third suits own back = rw (own, plan, back, lists_back C.prices (most_lockages ships) formed) refl
 
 pub certificate_back : (form : Form) (I : Instance) (C : Certificate) (version : Version) (cost : ℕ) (cuts : List CertCut) (plan : Plan) (prices : List (List ℕ)) (tree : List Mark)
     → (let made : Certificate = record { cost = cost; cuts = cuts; plan = plan; prices = prices; tree = tree } in made ≡ C) → version ≡ version_of form C → IsWellFormed I C → AreOf form C.tree
@@ -64,4 +65,4 @@ certificate_back form I C version cost cuts plan prices tree made is formed own 
     let own_cuts : cuts_in (cuts_data C.cuts) ≡ Some C.cuts = subst (λ (k : Certificate). cuts_in (cuts_data k.cuts) ≡ Some k.cuts) made cuts_back in
     let own_plan : IsPlanBack C.plan = subst (λ (k : Certificate). IsPlanBack k.plan) made plan_back in
     ap (λ v. certificate_in form I.ships v (certificate_data form I.ships C)) is
-    ∙ parts_back form I.ships (version_of form C) C (suited form C) formed.marks own formed.prices own_cuts (own_plan (most_listed I.ships) formed.few)
+    ∙ parts_back form I.ships (version_of form C) C (suited form C) formed.marks own formed.prices own_cuts (own_plan (most_lockages I.ships) formed.few)

@@ -12,7 +12,8 @@ use Rattle.instance_text.specs.Reading.{reading, instance_part, after_instance}
 use Rattle.serde_json.specs.Data.{Data}
 use Rattle.serde_json.specs.Find.{get}
 use Rattle.certificate_rules.specs.Certificates.{Certificate, HasNoOpenLeaf}
-use Rattle.certificate_rules.specs.WellFormed.{numbering_of, most_listed}
+use Rattle.certificate_rules.specs.WellFormed.{numbering_of}
+use Rattle.lock_model.specs.Fleet.{most_lockages}
 use Rattle.cert_text.specs.declared.heading.Form.TheVariants as form
 use Rattle.cert_text.specs.declared.heading.Version.{Version}
 use Rattle.cert_text.specs.declared.bad.BadDossier.TheVariants as fault
@@ -48,7 +49,7 @@ certificate_whole ships version d C e =
     let read = tree_in (mark_in form.Whole (numbering_of ships)) (is_third version) in
     let front = step (front_in ships version d) _ C e in
     let tree = step (or_fault 5 (value_at (codes "tree") read d)) _ C front.2 in
-    let prices = step (or_fault 6 (prices_under (most_listed ships) version d)) _ C tree.2 in
+    let prices = step (or_fault 6 (prices_under (most_lockages ships) version d)) _ C tree.2 in
     let own = at_key read (get (codes "tree") d) tree.0 (found 5 (value_at (codes "tree") read d) tree.0 tree.1) in
     let same = ap (λ (c : Certificate). c.tree) (one-ok (Ok (record { cost = front.0.cost; cuts = front.0.cuts; plan = front.0.plan; prices = prices.0; tree = tree.0 })) _ C refl prices.2) in
     subst HasNoOpenLeaf same (tree_whole (numbering_of ships) (is_third version) own.0 tree.0 own.1)

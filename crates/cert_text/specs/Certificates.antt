@@ -5,7 +5,8 @@ use Rattle.lock_model.specs.declared.ship.Ship.{Ship}
 use Rattle.lock_model.specs.declared.plan.Plan.{Plan}
 use Rattle.closing_rules.specs.ProvedCuts.{CertCut}
 use Rattle.certificate_rules.specs.Certificates.{Certificate}
-use Rattle.certificate_rules.specs.WellFormed.{numbering_of, most_listed}
+use Rattle.certificate_rules.specs.WellFormed.{numbering_of}
+use Rattle.lock_model.specs.Fleet.{most_lockages}
 use Rattle.line_text.specs.Steps.{◌>>=◌, ◌>>◌}
 use Rattle.cert_text.specs.declared.certificate.Front.{Front}
 use Rattle.cert_text.specs.declared.heading.Form.{Form}
@@ -60,7 +61,7 @@ front_in ships version d = do
   or_fault 1 (when (is_frame version d))
   cost ← or_fault 2 (value_at (codes "cost") cost_in d)
   cuts ← or_fault 3 (value_at (codes "cuts") (cuts_under version) d)
-  plan ← or_fault 4 (value_at (codes "plan") (plan_in (most_listed ships)) d)
+  plan ← or_fault 4 (value_at (codes "plan") (plan_in (most_lockages ships)) d)
   Ok (record { cost = cost; cuts = cuts; plan = plan })
 
 -- The certificate of this form and version that a value is, where the instance has these ships, or the number of the first part at
@@ -69,7 +70,7 @@ unfoldable pub certificate_in : Form → List Ship → Version → Data → Resu
 certificate_in form ships version d = do
   front ← front_in ships version d
   tree ← or_fault 5 (value_at (codes "tree") (tree_in (mark_in form (numbering_of ships)) (is_third version)) d)
-  prices ← or_fault 6 (prices_under (most_listed ships) version d)
+  prices ← or_fault 6 (prices_under (most_lockages ships) version d)
   Ok (record { cost = front.cost; cuts = front.cuts; plan = front.plan; prices = prices; tree = tree })
 
 -- what is written of the certificate is read as it in this version

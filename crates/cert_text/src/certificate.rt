@@ -1,6 +1,6 @@
 //! Certificates as JSON values.
 ghost use Rattle.std.specs.Prelude.{◌≡◌, ◌≤◌, IfOk, IfErr, Some, None, Ok, codes};
-ghost use Rattle.certificate_rules.specs.WellFormed.{IsWellFormed, most_listed};
+ghost use Rattle.certificate_rules.specs.WellFormed.{IsWellFormed};
 ghost use Rattle.serde_json.specs.View.{view};
 ghost use Rattle.cert_text.specs.Answers.{IsCausedFault, IsFault};
 ghost use Rattle.cert_text.specs.Steps.{fault_under};
@@ -136,15 +136,6 @@ pub struct Front {
     pub plan: Plan,
 }
 
-/// The lockages of the plan of a certificate, and the prices of a list, at most.
-#[tactic(auto, unfolding(certificate_rules::specs::WellFormed::most_listed, lock_model::specs::Fleet::most_lockages, lock_model::specs::Fleet::is_large))]
-fn most_listed(instance: &Instance) -> usize
-    ensures value { result ≡ most_listed instance.now.ships }
-    ensures fits { result ≤ SHIPS }
-{
-    instance.most_lockages()
-}
-
 /// The parts that come before the tree in a value of a version, or the first one at fault.
 #[tactic(auto, unfolding(crate::specs::Certificates::front_in))]
 fn front_in(
@@ -161,7 +152,7 @@ fn front_in(
     }
     let cost = cost_at(value)?;
     let cuts = cuts_at(alloc, version, value)?;
-    let plan = plan_at(most_listed(instance), value)?;
+    let plan = plan_at(instance.most_lockages(), value)?;
     Ok(Front { cost, cuts, plan })
 }
 
@@ -185,7 +176,7 @@ pub fn certificate_in(
         is_third(version),
         value,
     )?;
-    let prices = prices_at(alloc, most_listed(instance), version, value)?;
+    let prices = prices_at(alloc, instance.most_lockages(), version, value)?;
     Ok(Certificate {
         cost,
         cuts,

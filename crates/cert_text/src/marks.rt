@@ -14,7 +14,7 @@ use serde_json::Value;
 use std::alloc::AllocError;
 
 /// How the marks of an instance's trees are numbered.
-#[tactic(auto, unfolding(certificate_rules::specs::WellFormed::numbering_of, lock_model::specs::Fleet::is_large))]
+#[tactic(auto, unfolding(certificate_rules::specs::WellFormed::numbering_of))]
 pub fn numbering_of(instance: &Instance) -> Numbering
     ensures { result ≡ numbering_of instance.now.ships }
 {

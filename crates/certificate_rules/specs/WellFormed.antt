@@ -1,7 +1,8 @@
 -- Certificates that can be written down.
-use Rattle.std.specs.Prelude.{ℕ, ◌≡◌, ◌≤◌, ◌<◌, ◌^◌, List, length, nat_lt, All, if◌then◌else◌, ⊤}
+use Rattle.std.specs.Prelude.{ℕ, ◌≡◌, ◌≤◌, ◌<◌, ◌^◌, List, length, All, if◌then◌else◌, ⊤}
 use Rattle.lock_model.specs.declared.limits.TheConstants.{FEW_SHIPS, MOST, SHIPS}
 use Rattle.lock_model.specs.Limits.{Within}
+use Rattle.lock_model.specs.Fleet.{is_large, most_lockages}
 use Rattle.lock_model.specs.declared.ship.Ship.{Ship}
 use Rattle.lock_model.specs.declared.instance.Instance.{Instance}
 use Rattle.lock_model.specs.declared.plan.Lockage.{Lockage}
@@ -21,16 +22,12 @@ use Rattle.certificate_rules.specs.declared.certificate.Mark.TheVariants as mark
 
 -- how marks are numbered in a tree of an instance with these ships
 unfoldable pub numbering_of : List Ship → Numbering
-numbering_of ships = if nat_lt FEW_SHIPS (length ships) then Many else Few
+numbering_of ships = if is_large ships then Many else Few
 
 -- the ships that a mark may name, from the first on
 abbrev pub probed_ships : Numbering → ℕ
 probed_ships Few = FEW_SHIPS
 probed_ships Many = SHIPS
-
--- the lockages of a plan, and the prices of a list, at most, where the instance has these ships
-unfoldable pub most_listed : List Ship → ℕ
-most_listed ships = if nat_lt FEW_SHIPS (length ships) then length ships else FEW_SHIPS
 
 abbrev pub IsFormedReason : Quick → Type 0
 IsFormedReason Area = ⊤
@@ -68,7 +65,7 @@ IsFormedMark numbering mark.Open = ⊤
 -- what a certificate of an instance keeps that may be written down
 pub record IsWellFormed (I : Instance) (C : Certificate) : Type 0 where
   pub cuts : All IsFormedCut C.cuts
-  pub few : length C.plan.lockages ≤ most_listed I.ships
+  pub few : length C.plan.lockages ≤ most_lockages I.ships
   pub lockages : All IsFormedLockage C.plan.lockages
-  pub prices : All (AreFormedPrices (most_listed I.ships)) C.prices
+  pub prices : All (AreFormedPrices (most_lockages I.ships)) C.prices
   pub marks : All (IsFormedMark (numbering_of I.ships)) C.tree

@@ -170,13 +170,13 @@ plain_back I few_ships never_closed harmless =
 abbrev ReadsBack : Instance → Format → Type 0
 ReadsBack I format = read_lines 0 (((header_words format ∷ map chamber_words I.chambers) ++ flat_map closings I.chambers ++ map ship_words I.ships ++ (codes "end" ∷ []) ∷ []) ++ [] ∷ []) ≡ Ok (draft_of I)
 
-few_where_not_large : (I : Instance) → is_large I ≡ false → length I.ships ≤ FEW_SHIPS
+few_where_not_large : (I : Instance) → is_large I.ships ≡ false → length I.ships ≤ FEW_SHIPS
 unfolding is_large
 few_where_not_large I is = grind (arith, nat_tests)
 
 lines_back : (I : Instance) → read_lines 0 (canonical_words I ++ [] ∷ []) ≡ Ok (draft_of I)
 unfolding canonical_words format_of
-lines_back I = by_size (is_large I) refl
+lines_back I = by_size (is_large I.ships) refl
   where
     parts : (header : List (List ℕ)) → ((header ∷ map chamber_words I.chambers) ++ flat_map closings I.chambers ++ map ship_words I.ships ++ (codes "end" ∷ []) ∷ []) ++ [] ∷ [] ≡ header ∷ body I
     parts header = grouped (header ∷ map chamber_words I.chambers) (flat_map closings I.chambers) (map ship_words I.ships) ((codes "end" ∷ []) ∷ []) ([] ∷ [])
@@ -187,7 +187,7 @@ lines_back I = by_size (is_large I) refl
         ap (read_lines 0) (parts (header_words First)) ∙ plain_back I few holds.0 holds.1
     by_plain false is few = ap (read_lines 0) (parts (header_words Second)) ∙ rich_back I Second refl refl few
 
-    by_size : (large : Bool) → is_large I ≡ large → ReadsBack I (cond large Third (cond (is_plain I) First Second))
+    by_size : (large : Bool) → is_large I.ships ≡ large → ReadsBack I (cond large Third (cond (is_plain I) First Second))
     by_size true is = ap (read_lines 0) (parts (header_words Third)) ∙ rich_back I Third refl refl I.limits.ship_count.1
     by_size false is = by_plain (is_plain I) refl (few_where_not_large I is)
 

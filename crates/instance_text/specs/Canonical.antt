@@ -54,7 +54,7 @@ is_plain I = list_all (λ c. length c.closures == 0) I.chambers && list_all (λ 
 
 -- the first format that says all of it
 abbrev pub canonical_format : Instance → Format
-canonical_format I = if is_large I then Third else (if is_plain I then First else Second)
+canonical_format I = if is_large I.ships then Third else (if is_plain I then First else Second)
 
 abbrev pub format_word : Format → List ℕ
 format_word First = codes "1"

@@ -9,7 +9,7 @@ impl Instance {
     /// Whether it has more ships than a text of the first two formats may have.
     #[tactic(auto, unfolding(crate::specs::Fleet::is_large))]
     pub fn is_large(&self) -> bool
-        ensures { result ≡ is_large self.now }
+        ensures { result ≡ is_large self.now.ships }
     {
         FEW_SHIPS < self.ships.as_slice().len()
     }
@@ -18,7 +18,7 @@ impl Instance {
     /// large, and else `FEW_SHIPS`, however few ships it has.
     #[tactic(auto, unfolding(crate::specs::Fleet::most_lockages, crate::specs::Fleet::is_large))]
     pub fn most_lockages(&self) -> usize
-        ensures value { result ≡ most_lockages self.now }
+        ensures value { result ≡ most_lockages self.now.ships }
         ensures fits { result ≤ SHIPS }
     {
         if self.is_large() {

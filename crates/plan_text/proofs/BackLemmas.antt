@@ -66,10 +66,10 @@ lines_plain I ls good =
 
 -- ---- single lines
 
-read_head_back : (I : Instance) (count : ℕ) (l : Lockage) → count < most_lockages I → IsWritable I l → read_head I count (head_words I l) ≡ Ok (head_of l)
+read_head_back : (I : Instance) (count : ℕ) (l : Lockage) → count < most_lockages I.ships → IsWritable I l → read_head I count (head_words I l) ≡ Ok (head_of l)
 unfolding read_head head_words
 read_head_back I count l room good =
-    let free : nat_lt count (most_lockages I) ≡ true = grind (arith, nat_tests) in
+    let free : nat_lt count (most_lockages I.ships) ≡ true = grind (arith, nat_tests) in
     let start = good.start in
     rw (free, chamber_back I l.chamber good.chamber, way_back l.way, number_back 1000000000 l.start start (omega (arith, start))) refl
 
@@ -86,7 +86,7 @@ berth_line_back : (I : Instance) (n : ℕ) (ls : List Lockage) (h : Head) (bs : 
 unfolding read_line add_berth berth_words
 berth_line_back I n ls h bs ships s p room new ship known good = rw (read_berth_back I n bs ships s p room new ship known good) refl
 
-head_line_back : (I : Instance) (n : ℕ) (d : Draft) (done : List Lockage) (l : Lockage) → close I d ≡ Ok (record { lockages = done; head = None; berths = [] }) → length done < most_lockages I → IsWritable I l
+head_line_back : (I : Instance) (n : ℕ) (d : Draft) (done : List Lockage) (l : Lockage) → close I d ≡ Ok (record { lockages = done; head = None; berths = [] }) → length done < most_lockages I.ships → IsWritable I l
     → read_line I n d (head_words I l) ≡ Ok (More, record { lockages = done; head = Some (head_of l); berths = [] })
 unfolding read_line read_other add_lockage head_words
 head_line_back I n d done l whole room good = rw (whole, read_head_back I (length done) l room good) refl
@@ -140,14 +140,14 @@ next_lines : (I : Instance) (l : Lockage) (ls : List Lockage) → flat_map (lock
 unfolding lockage_lines
 next_lines I l ls = append_assoc (lockage_lines I l) (flat_map (lockage_lines I) ls) ((codes "end" ∷ []) ∷ [] ∷ [])
 
-lockages_back : (I : Instance) (n : ℕ) (d : Draft) (done ls : List Lockage) → close I d ≡ Ok (record { lockages = done; head = None; berths = [] }) → length done + length ls ≤ most_lockages I → All (IsWritable I) ls
+lockages_back : (I : Instance) (n : ℕ) (d : Draft) (done ls : List Lockage) → close I d ≡ Ok (record { lockages = done; head = None; berths = [] }) → length done + length ls ≤ most_lockages I.ships → All (IsWritable I) ls
     → read_body I n d (flat_map (lockage_lines I) ls ++ (codes "end" ∷ []) ∷ [] ∷ []) ≡ Ok (done ++ ls)
 lockages_back I n d done [] whole few good = rw (end_line_back I (n + 1) d done whole) (ap Ok (sym (append-nil done)))
 lockages_back I n d done (l ∷ ls) whole few good =
     let own = All-head (IsWritable I) l ls good in
     let end : List (List (List ℕ)) = (codes "end" ∷ []) ∷ [] ∷ [] in
     let more : List (List (List ℕ)) = flat_map (lockage_lines I) ls ++ end in
-    let room : length done < most_lockages I = omega (arith, few) in
+    let room : length done < most_lockages I.ships = omega (arith, few) in
     let small = own.few in
     subst (λ xs. read_body I n d xs ≡ Ok (done ++ l ∷ ls)) (sym (next_lines I l ls))
     (goes_on I n d (record { lockages = done; head = Some (head_of l); berths = [] }) (head_words I l) (berths_of I l.ships l.ships l.spots ++ more) (Ok (done ++ l ∷ ls))
@@ -156,7 +156,7 @@ lockages_back I n d done (l ∷ ls) whole few good =
     (λ m. subst (λ xs. read_body I m (record { lockages = done; head = Some (head_of l); berths = made l.ships (n + 1 + 1) l.ships l.spots }) more ≡ Ok xs) (append_assoc done (l ∷ []) ls)
     (lockages_back I m (record { lockages = done; head = Some (head_of l); berths = made l.ships (n + 1 + 1) l.ships l.spots }) (done ++ l ∷ []) ls (close_back I done l (n + 1 + 1) own) (let longer = length_push done l in omega (arith, few, longer)) (All-tail (IsWritable I) l ls good)))))
 
-lines_back : (I : Instance) (ls : List Lockage) → length ls ≤ most_lockages I → All (IsWritable I) ls → read_lines I 0 (plan_lines I ls ++ [] ∷ []) ≡ Ok ls
+lines_back : (I : Instance) (ls : List Lockage) → length ls ≤ most_lockages I.ships → All (IsWritable I) ls → read_lines I 0 (plan_lines I ls ++ [] ∷ []) ≡ Ok ls
 unfolding plan_lines is_only close
 lines_back I ls few good =
     ap (λ xs. read_body I 1 no_draft xs) (append_assoc (flat_map (lockage_lines I) ls) ((codes "end" ∷ []) ∷ []) ([] ∷ []))

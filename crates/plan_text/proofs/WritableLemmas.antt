@@ -99,16 +99,16 @@ module _ (I : Instance) where
     x : b.x ≤ 100000
     y : b.y ≤ 100000
 
-  head_good : (count : ℕ) (ws : List (List ℕ)) → IfOk (read_head I count ws) (λ h. IsGoodHead h × (count < most_lockages I))
+  head_good : (count : ℕ) (ws : List (List ℕ)) → IfOk (read_head I count ws) (λ h. IsGoodHead h × (count < most_lockages I.ships))
   unfolding read_head
   head_good count ws =
-      steps (length ws == 4) (nat_lt count (most_lockages I)) (chamber_named I.chambers (word_at ws 1)) (way (word_at ws 2)) (number 1000000000 (word_at ws 3)) room (chamber_known (word_at ws 1)) (number_within 1000000000 (word_at ws 3))
+      steps (length ws == 4) (nat_lt count (most_lockages I.ships)) (chamber_named I.chambers (word_at ws 1)) (way (word_at ws 2)) (number 1000000000 (word_at ws 3)) room (chamber_known (word_at ws 1)) (number_within 1000000000 (word_at ws 3))
     where
-      room : nat_lt count (most_lockages I) ≡ true → count < most_lockages I
+      room : nat_lt count (most_lockages I.ships) ≡ true → count < most_lockages I.ships
       room free = grind (arith, nat_tests)
 
-      steps : (counted free : Bool) (c : Result ℕ PlanKind) (w : Result Way PlanKind) (s : Result ℕ PlanKind) → (free ≡ true → count < most_lockages I) → IfOk c (λ c. c < length I.chambers) → IfOk s (λ n. n ≤ 1000000000)
-          → IfOk (check counted Count >> (check free Range >> (c >>= λ chamber. w >>= λ way. s >>= λ start. Ok (record { chamber = chamber; way = way; start = start })))) (λ h. IsGoodHead h × (count < most_lockages I))
+      steps : (counted free : Bool) (c : Result ℕ PlanKind) (w : Result Way PlanKind) (s : Result ℕ PlanKind) → (free ≡ true → count < most_lockages I.ships) → IfOk c (λ c. c < length I.chambers) → IfOk s (λ n. n ≤ 1000000000)
+          → IfOk (check counted Count >> (check free Range >> (c >>= λ chamber. w >>= λ way. s >>= λ start. Ok (record { chamber = chamber; way = way; start = start })))) (λ h. IsGoodHead h × (count < most_lockages I.ships))
       steps true true (Ok c) (Ok w) (Ok s) room known low = (record { chamber = known; start = low }, room refl)
       steps true true (Ok c) (Ok w) (Err e) room known low = tt
       steps true true (Ok c) (Err e) s room known low = tt
@@ -224,9 +224,9 @@ module _ (I : Instance) where
   -- ---- drafts
 
   record IsGood (d : Draft) : Type 0 where
-    few : length d.lockages ≤ most_lockages I
+    few : length d.lockages ≤ most_lockages I.ships
     each : All (IsWritable I) d.lockages
-    head : IfSome d.head (λ h. IsGoodHead h × (length d.lockages < most_lockages I))
+    head : IfSome d.head (λ h. IsGoodHead h × (length d.lockages < most_lockages I.ships))
     berths : length d.berths ≤ MOST
     good : All IsGoodBerth d.berths
 
@@ -234,7 +234,7 @@ module _ (I : Instance) where
   unfolding close
   close_good d is = by_head d.head is.head refl
     where
-      by_head : (head : Option Head) → IfSome head (λ h. IsGoodHead h × (length d.lockages < most_lockages I)) → head ≡ d.head → IfOk (close_by I d head) IsGood
+      by_head : (head : Option Head) → IfSome head (λ h. IsGoodHead h × (length d.lockages < most_lockages I.ships)) → head ≡ d.head → IfOk (close_by I d head) IsGood
       by_head None good same = is
       by_head (Some h) good same =
           after (check_hosts d.berths d.berths) (Ok (record { lockages = d.lockages ++ lockage_of I h d.berths ∷ []; head = None; berths = [] })) (λ _. All (λ b. is_hosted_by d.berths b.host ≡ true) d.berths) IsGood (hosts_good d.berths d.berths) (λ _ hosted. record {
@@ -269,7 +269,7 @@ module _ (I : Instance) where
   add_lockage_good d ws is =
       steps (read_head I (length d.lockages) ws) (head_good (length d.lockages) ws)
     where
-      steps : (r : Result Head PlanKind) → IfOk r (λ h. IsGoodHead h × (length d.lockages < most_lockages I)) → IfOk {T = Progress × Draft} (r >>= λ head. Ok (More, record { lockages = d.lockages; head = Some head; berths = [] })) (λ r. IsGood r.1)
+      steps : (r : Result Head PlanKind) → IfOk r (λ h. IsGoodHead h × (length d.lockages < most_lockages I.ships)) → IfOk {T = Progress × Draft} (r >>= λ head. Ok (More, record { lockages = d.lockages; head = Some head; berths = [] })) (λ r. IsGood r.1)
       steps (Ok h) own = record { few = is.few; each = is.each; head = own; berths = omega arith; good = All-nil IsGoodBerth }
       steps (Err e) own = tt
 
@@ -298,7 +298,7 @@ module _ (I : Instance) where
   -- ---- the whole text
 
   abbrev AreGood : List Lockage → Type 0
-  AreGood ls = (length ls ≤ most_lockages I) × All (IsWritable I) ls
+  AreGood ls = (length ls ≤ most_lockages I.ships) × All (IsWritable I) ls
 
   read_rest_good : (n : ℕ) (ls : List Lockage) (lines : List (List (List ℕ))) → AreGood ls → IfOk (read_rest n ls lines) AreGood
   read_rest_good n ls lines good = by_rest (first_words n lines)

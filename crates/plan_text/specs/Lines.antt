@@ -24,7 +24,7 @@ use Rattle.plan_text.specs.Draft.{Draft, close}
 unfoldable pub read_head : Instance → ℕ → List (List ℕ) → Result Head PlanKind
 read_head I count words = do
   check (length words == 4) Count
-  check (nat_lt count (most_lockages I)) Range
+  check (nat_lt count (most_lockages I.ships)) Range
   chamber ← chamber_named I.chambers (word_at words 1)
   way ← way (word_at words 2)
   start ← number 1000000000 (word_at words 3)

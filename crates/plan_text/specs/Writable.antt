@@ -33,5 +33,5 @@ pub record IsWritable (I : Instance) (l : Lockage) : Type 0 where
 
 -- at most as many as a plan text of the instance may have
 pub record AreWritable (I : Instance) (P : Plan) : Type 0 where
-  pub few : length P.lockages ≤ most_lockages I
+  pub few : length P.lockages ≤ most_lockages I.ships
   pub each : All (IsWritable I) P.lockages
