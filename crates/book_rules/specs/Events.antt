@@ -8,10 +8,10 @@ use Rattle.refute_rules.specs.Cuts.{Cut, IsCut}
 use Rattle.closing_rules.specs.declared.grounds.Ground.{Ground}
 use Rattle.closing_rules.specs.ListedPrices.{ArePrices}
 use Rattle.lock_rules.specs.Node.{Node as TreeNode}
-use Rattle.book_rules.specs.Shown.{Shown, IsShown}
+use Rattle.book_rules.specs.Shown.{Shown, IsShown, Swept, IsSweptCost}
 
--- The events; `park` names slot, chamber and place, and carries the deck and the turns of the lent value; `close_price` names slot
--- and prices, and carries what was shown.
+-- The events; `park` names slot, chamber and place, and carries the deck and the turns of the lent value; `close_price` and
+-- `close_swept` name slot and prices, and carry what was shown or swept.
 pub data Event : Type 0 where
   take : ℕ → Event
   split : ℕ → Event
@@ -19,6 +19,7 @@ pub data Event : Type 0 where
   post : Cut → Event
   post_prices : List ℕ → Event
   close_price : ℕ → ℕ → Shown → Event
+  close_swept : ℕ → ℕ → Swept → Event
   park : ℕ → ℕ → ℕ → Deck → ℕ → Event
   replace : Plan → Event
   release : ℕ → Event
@@ -50,6 +51,8 @@ pub data Reply (Break : Type 0) : Type 0 where
   OtherPrices : Reply Break
   NoPrices : ℕ → Reply Break
   NotShown : Reply Break
+  NotRoot : Reply Break
+  NotSwept : Reply Break
 
 -- the first eight accept their event, the others refuse it
 abbrev pub is_acceptance : {Break : Type 0} → Reply Break → Bool
@@ -64,7 +67,7 @@ is_acceptance (Released count) = true
 is_acceptance _ = false
 
 -- what the caller of an event owes: a worker's number is at most WORKERS, the driver's, a lent deck is hard and spot-hard, a cut's
--- refutation holds, prices are within their limits, and what is shown is reached
+-- refutation holds, prices are within their limits, what is shown is reached, and what is swept is so
 abbrev pub IsOwed : Event → Type 0
 IsOwed (take w) = w ≤ WORKERS
 IsOwed (release w) = w ≤ WORKERS
@@ -72,4 +75,5 @@ IsOwed (park id c p deck turns) = IsSpent deck turns
 IsOwed (post cut) = IsCut cut
 IsOwed (post_prices prices) = ArePrices prices
 IsOwed (close_price id number shown) = IsShown shown
+IsOwed (close_swept id number swept) = IsSweptCost swept
 IsOwed _ = ⊤

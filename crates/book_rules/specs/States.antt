@@ -12,7 +12,7 @@ use Rattle.book_rules.specs.declared.book.SlotState.{SlotState}
 use Rattle.book_rules.specs.declared.book.SlotState.TheVariants as slot
 use Rattle.book_rules.specs.Book.{Case, Slot, Book, best_cost, ships_at}
 use Rattle.price_rules.specs.Prices.{PlainCut}
-use Rattle.closing_rules.specs.ListedPrices.{cut_in, IsPricedBy}
+use Rattle.closing_rules.specs.ListedPrices.{cut_in, IsPricedBy, IsSweptBy}
 use Rattle.closing_rules.specs.Grounds.{IsClosedBy}
 
 -- the cut of this number is there and hits a group of the lines
@@ -36,6 +36,7 @@ abbrev pub Tells : Case → List Cut → List (List ℕ) → ℕ → Node → �
 Tells case cuts prices cost node bound slot.Fresh = bound < cost
 Tells case cuts prices cost node bound (slot.Closed why) =
     IsClosedBy case.instance (IsHitBy case.instance cuts) (IsPricedBy case.instance (cuts_in case.instance cuts) prices)
+    (IsSweptBy case.instance (cuts_in case.instance cuts) prices)
     cost bound node.depth node.lines why
 Tells case cuts prices cost node bound (slot.Parked c p) = IsSpentGroup case node c p
 Tells case cuts prices cost node bound _ = ⊤

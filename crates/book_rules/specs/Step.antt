@@ -20,13 +20,13 @@ use Rattle.closing_rules.specs.declared.grounds.Ground.TheVariants as by
 use Rattle.book_rules.specs.declared.book.SlotState.{SlotState}
 use Rattle.book_rules.specs.declared.book.Entry.{Entry}
 use Rattle.book_rules.specs.Same.{same_instance, same_node}
-use Rattle.book_rules.specs.Shown.{Shown, are_first_cuts}
+use Rattle.book_rules.specs.Shown.{Shown, Swept, are_first_cuts}
 use Rattle.book_rules.specs.Tests.{same_deck, has_clash, is_node_hit, is_own_cut}
 use Rattle.book_rules.specs.Book.{Slot, Book, slot_at, best_cost, new_slot, is_fresh, is_back, is_held, is_held_by, is_parked, has_slot, first_slot, group_at}
-use Rattle.book_rules.specs.Events.{Event, take, split, close, post, post_prices, close_price, park, replace, release}
+use Rattle.book_rules.specs.Events.{Event, take, split, close, post, post_prices, close_price, close_swept, park, replace, release}
 use Rattle.book_rules.specs.Events.{Reply, Node, Made, Closed, Posted, Priced, Parked, Replaced, Released}
 use Rattle.book_rules.specs.Events.{Ended, Holds, NodesSpent, Idle, Done, NotHeld, Whole, Cheaper, NoHit, OtherDeck, NotLegal, NotCheaper}
-use Rattle.book_rules.specs.Events.{Absent, Clashes, OtherPrices, NoPrices, NotShown}
+use Rattle.book_rules.specs.Events.{Absent, Clashes, OtherPrices, NoPrices, NotShown, NotRoot, NotSwept}
 use Rattle.book_rules.specs.NextSlot.{next_fresh}
 use Rattle.book_rules.specs.declared.book.SlotState.TheVariants as slot
 use Rattle.book_rules.specs.declared.book.Entry.TheVariants as entry
@@ -104,13 +104,15 @@ lacks_ship b id s = has_number (missing_ships b.case.instance (slot_at b id).nod
 abbrev pub cheaper_than : {Break : Type 0} → ℕ → ℕ → Option (Reply Break)
 cheaper_than best bound = if nat_lt bound best then Some (Cheaper bound best) else None
 
--- why slot id isn't closed so, where it may be closed; by prices it is closed by what was shown alone (`price_refusal`)
+-- why slot id isn't closed so, where it may be closed; by prices it is closed by what was shown alone (`price_refusal`), and by a
+-- sweep by what was swept (`sweep_refusal`)
 abbrev pub refusal_of : {Break : Type 0} → Book → ℕ → Ground → Option (Reply Break)
 refusal_of b id by.Bound = cheaper_than (best_cost b) (slot_at b id).bound
 refusal_of b id by.Throughput = cheaper_than (best_cost b) (throughput_of b.case.instance)
 refusal_of b id (by.Probe s) = if not (lacks_ship b id s) then Some (Absent s) else cheaper_than (best_cost b) (probe_at b id s)
 refusal_of b id (by.Cut number) = if not (hits_in b id (slice_get b.cuts number)) then Some (NoHit number) else None
 refusal_of b id (by.Price number) = Some NotShown
+refusal_of b id (by.Swept number) = Some NotSwept
 
 -- what was shown is of the case's instance, of slot id's node, by these prices and by the first cuts of the book
 abbrev pub is_shown : Book → ℕ → List ℕ → Shown → Bool
@@ -122,6 +124,20 @@ is_shown b id prices shown =
 abbrev pub price_refusal : {Break : Type 0} → Book → ℕ → ℕ → Shown → Option (List ℕ) → Option (Reply Break)
 price_refusal b id number shown None = Some (NoPrices number)
 price_refusal b id number shown (Some prices) = if not (is_shown b id prices shown) then Some NotShown else cheaper_than (best_cost b) shown.cost
+
+-- what was swept is of the case's instance, by the first cuts of the book
+abbrev pub is_swept : Book → Swept → Bool
+is_swept b swept = same_instance swept.instance b.case.instance && are_first_cuts swept.cuts b.cuts
+
+-- by the prices of this number, where they are there
+abbrev pub sweep_by_prices : {Break : Type 0} → Book → ℕ → Swept → Option (List ℕ) → Option (Reply Break)
+sweep_by_prices b number swept None = Some (NoPrices number)
+sweep_by_prices b number swept (Some prices) = if not (is_swept b swept) then Some NotSwept else cheaper_than (best_cost b) swept.cost
+
+-- why slot id isn't closed by a sweep that went by the prices of this number, where it may be closed
+abbrev pub sweep_refusal : {Break : Type 0} → Book → ℕ → ℕ → Swept → Option (List ℕ) → Option (Reply Break)
+sweep_refusal b id number swept prices =
+    if not (nat_eq (slot_at b id).node.depth 0) then Some NotRoot else sweep_by_prices b number swept prices
 
 -- slot id is closed
 abbrev pub closed : Book → ℕ → Ground → Book
@@ -138,6 +154,11 @@ abbrev pub close_price_step : {Break : Type 0} → Book → ℕ → ℕ → Show
 close_price_step b id number shown =
     if not (may_close b id) then (b, NotHeld id)
     else close_unless b id (by.Price number) (price_refusal b id number shown (slice_get b.prices number))
+
+abbrev pub close_swept_step : {Break : Type 0} → Book → ℕ → ℕ → Swept → Book × Reply Break
+close_swept_step b id number swept =
+    if not (may_close b id) then (b, NotHeld id)
+    else close_unless b id (by.Swept number) (sweep_refusal b id number swept (slice_get b.prices number))
 
 abbrev pub priced : {Break : Type 0} → Book → List ℕ → Book × Reply Break
 priced b prices = (noted (record b { prices = b.prices ++ prices ∷ [] }) entry.Prices, Priced (length b.prices))
@@ -202,6 +223,7 @@ step first_break b (close id why) = close_step b id why
 step first_break b (post cut) = post_step b cut
 step first_break b (post_prices prices) = post_prices_step b prices
 step first_break b (close_price id number shown) = close_price_step b id number shown
+step first_break b (close_swept id number swept) = close_swept_step b id number swept
 step first_break b (park id c p deck turns) = park_step b id c p deck turns
 step first_break b (replace plan) = replace_by b plan (first_break b.case.instance plan)
 step first_break b (release w) = release_step b w

@@ -15,7 +15,7 @@ use Rattle.certificate_rules.specs.declared.certificate.Mark.{Mark}
 use Rattle.certificate_rules.specs.declared.certificate.Mark.TheVariants as mark
 use Rattle.closing_rules.specs.Grounds.{IsClosedBy}
 use Rattle.closing_rules.specs.ProvedCuts.{CertCut, IsProved}
-use Rattle.closing_rules.specs.ListedPrices.{AreShapedPrices, cut_in, IsPricedBy}
+use Rattle.closing_rules.specs.ListedPrices.{AreShapedPrices, cut_in, IsPricedBy, IsSweptBy}
 
 pub record Certificate : Type 0 where
   pub cost : ℕ
@@ -38,7 +38,8 @@ cuts_in I cuts = map (λ (c : CertCut). cut_in I c.chamber c.ships) cuts
 -- the mark ends a node of depth k against this cost: it closes it, or leaves it open
 abbrev pub EndsNode : Instance → ℕ → List CertCut → List (List ℕ) → ℕ → List (List Group) → Mark → Type 0
 EndsNode I cost cuts prices k lines mark.Split = ⊥
-EndsNode I cost cuts prices k lines (mark.Leaf why) = IsClosedBy I (IsCutBy I cuts) (IsPricedBy I (cuts_in I cuts) prices) cost (bound_of I k lines) k lines why
+EndsNode I cost cuts prices k lines (mark.Leaf why) =
+    IsClosedBy I (IsCutBy I cuts) (IsPricedBy I (cuts_in I cuts) prices) (IsSweptBy I (cuts_in I cuts) prices) cost (bound_of I k lines) k lines why
 EndsNode I cost cuts prices k lines mark.Open = ⊤
 
 -- the marks begin with one that ends the node, and the rest follows

@@ -25,6 +25,7 @@ ground_reason by.Throughput = reason.ThroughputLow
 ground_reason (by.Probe s) = reason.ProbeWrong
 ground_reason (by.Cut number) = reason.CutMisses
 ground_reason (by.Price number) = reason.PriceLow
+ground_reason (by.Swept number) = reason.SweptWrong
 
 -- why a mark that should end a node doesn't; a split mark doesn't where no ship is lacking, and an open leaf always does
 abbrev pub reason_of : Mark → Reason

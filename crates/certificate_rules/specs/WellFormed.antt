@@ -55,6 +55,7 @@ abbrev pub IsFormedGround : Numbering → Ground → Type 0
 IsFormedGround numbering (by.Probe s) = s < probed_ships numbering
 IsFormedGround numbering (by.Cut number) = number < 2 ^ 63
 IsFormedGround numbering (by.Price number) = number < 2 ^ 63
+IsFormedGround numbering (by.Swept number) = number < 2 ^ 63
 IsFormedGround numbering _ = ⊤
 
 abbrev pub IsFormedMark : Numbering → Mark → Type 0

@@ -36,4 +36,5 @@ pub enum Reason {
     ProbeWrong,
     PricesShape,
     PriceLow,
+    SweptWrong,
 }

@@ -5,7 +5,8 @@
 //! - `specs/Low`: what a certificate proves that stands.
 //! - `specs/WellFormed`: those that can be written as a text, and how their marks are numbered.
 //!
-//! A certificate may have prices, and marks that close a node by the prices of a number.
+//! A certificate may have prices, and marks that close a node by the prices of a number, or the root by a
+//! sweep.
 //!
 //! The laws stand in `proofs/`: a certificate that stands proves its low (`LowLemmas`), acceptance means
 //! cheapest (`AcceptLemmas`), no certificate that stands fails (`FailLemmas`). They take the laws of the

@@ -17,6 +17,7 @@ use Rattle.lock_model.specs.Normal.{HasNormal}
 use Rattle.refute_rules.proofs.RefuteLemmas.{refuted-unfit}
 use Rattle.price_rules.specs.Prices.{CutHolds}
 use Rattle.price_rules.proofs.ReachLemmas.{reached-holds}
+use Rattle.sweep_rules.proofs.SweptLemmas.{swept-holds}
 use Rattle.closing_rules.specs.ProvedCuts.{CertCut, IsProved}
 use Rattle.closing_rules.specs.ListedPrices.{cut_in}
 use Rattle.closing_rules.specs.Laws.{TreeLaws}
@@ -49,4 +50,5 @@ tree-laws law normal I = record {
       cut-holds law I c.ships (deck_of I c.chamber c.ships) k lines P holds.limits holds.unfit holds.rising holds.some node hits legal under;
   holds = proved-holds normal I;
   price = λ cuts k lines prices cost hold reached. reached-holds law I cuts hold k lines prices cost reached;
+  swept = λ cuts cost hold swept P legal. swept-holds law I cuts hold cost swept P legal;
 }

@@ -13,6 +13,7 @@ use Rattle.lock_rules.specs.Bound.{IsLowerBound, bound_of, probe_of}
 use Rattle.lock_rules.specs.Throughput.{throughput_of}
 use Rattle.lock_rules.specs.Cut.{HitsNode}
 use Rattle.price_rules.specs.Prices.{PlainCut, CutHolds, Reaches}
+use Rattle.sweep_rules.specs.Uncut.{IsSwept}
 use Rattle.closing_rules.specs.ProvedCuts.{CertCut, IsProved}
 use Rattle.closing_rules.specs.ListedPrices.{cut_in}
 
@@ -22,7 +23,8 @@ pub record IsUnderSomeChild (I : Instance) (k : ℕ) (lines : List (List Group))
   pub among : Contains (children_of I k lines) child
   pub under : IsUnder I (suc k) child P
 
--- Children split the plans, bounds hold, cuts hold, and what is reached by prices and cuts that hold is a lower bound.
+-- Children split the plans, bounds hold, cuts hold, and what is reached by prices and cuts that hold is a lower bound, as is what is
+-- swept by cuts that hold.
 pub record TreeLaws (I : Instance) : Type 0 where
   pub root : IsNode I 0 root_lines
   pub all : (P : Plan) → IsLegal I P → IsUnder I 0 root_lines P
@@ -38,3 +40,4 @@ pub record TreeLaws (I : Instance) : Type 0 where
   pub holds : (c : CertCut) → IsProved I c → CutHolds (cut_in I c.chamber c.ships)
   pub price : (cuts : List PlainCut) (k : ℕ) (lines : List (List Group)) (prices : List ℕ) (cost : ℕ)
       → All CutHolds cuts → Reaches I cuts k lines prices cost → IsLowerBound I k lines cost
+  pub swept : (cuts : List PlainCut) (cost : ℕ) → All CutHolds cuts → IsSwept I cuts cost → (P : Plan) → IsLegal I P → cost ≤ cost_of I P

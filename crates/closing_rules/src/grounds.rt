@@ -13,4 +13,7 @@ pub enum Ground {
     Cut(u64),
     /// It reaches the cost by the prices of this number and all cuts.
     Price(u64),
+    /// It is the root, there are prices of this number, by which the sweep went, and all cuts leave no
+    /// uncut plan below the cost.
+    Swept(u64),
 }

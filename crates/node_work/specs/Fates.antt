@@ -55,9 +55,14 @@ pub record IsPlanAt (I : Instance) (node : Node) (plan : AnyPlan) : Type 0 where
 abbrev pub IsNeverPriced : ℕ → ℕ → List (List Group) → ℕ → Type 0
 IsNeverPriced number k lines cost = ⊥
 
+-- nor by a sweep
+abbrev pub IsNeverSwept : ℕ → ℕ → ℕ → Type 0
+IsNeverSwept number k cost = ⊥
+
 -- what becomes of the node is so, where the best plan costs this much
 abbrev pub IsFate : (ℕ → List ℕ → ℕ → Type 0) → Instance → ℕ → ℕ → Node → Fate → Type 0
-IsFate tells I turns best node (Closed why) = IsClosedBy I (IsKnownHit tells I) IsNeverPriced best (bound_of I node.depth node.lines) node.depth node.lines why
+IsFate tells I turns best node (Closed why) =
+    IsClosedBy I (IsKnownHit tells I) IsNeverPriced IsNeverSwept best (bound_of I node.depth node.lines) node.depth node.lines why
 IsFate tells I turns best node Split = node.depth < length I.ships
 IsFate tells I turns best node (Plan plan) = IsPlanAt I node plan.value
 IsFate tells I turns best node (Refuted cut) = IsNodeCut I node.lines cut.value

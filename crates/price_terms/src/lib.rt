@@ -2,11 +2,12 @@
 //!
 //! `Prices` are of the ships of an instance, a `ChamberCut` is what a bound needs of a cut, `Limits` and
 //! `PriceError` say how much a bound may take and why it wasn't worked out, and `LooseLines` are least
-//! lines. `Shown` carries that a node reaches a cost by prices and cuts: its values exist only where
-//! that is so, which whoever makes one shows (`price_bound` works it out).
+//! lines. `Shown` carries that a node reaches a cost by prices and cuts, `Swept` that no uncut plan costs
+//! less than a cost: their values exist only where that is so, which whoever makes one shows
+//! (`price_bound` works the one out, `sweep` the other).
 //!
-//! Definitions: `price_rules` says what a node reaches; here `specs/Cuts` says what cuts are by chamber
-//! and ships, and `Claim` what a `Shown` carries.
+//! Definitions: `price_rules` says what a node reaches, `sweep_rules` when a cost is swept; here
+//! `specs/Cuts` says what cuts are by chamber and ships, and `Claim` what a `Shown` and a `Swept` carry.
 #![tactic(auto)]
 
 mod cut;
@@ -14,9 +15,11 @@ mod error;
 mod loose_line;
 mod prices;
 mod shown;
+mod swept;
 
 pub use cut::{ChamberCut, same_cuts};
 pub use error::{Limits, PriceError, append};
 pub use loose_line::{LooseLine, LooseLines, copied};
 pub use prices::Prices;
 pub use shown::Shown;
+pub use swept::Swept;

@@ -16,7 +16,7 @@ use Rattle.book_rules.specs.Events.{close}
 use Rattle.book_rules.specs.Step
 use Rattle.book_rules.specs.States.{IsHitBy}
 use Rattle.closing_rules.specs.Grounds.{IsClosedBy}
-use Rattle.node_work.specs.Fates.{IsNeverPriced}
+use Rattle.node_work.specs.Fates.{IsNeverPriced, IsNeverSwept}
 use Rattle.book_rules.proofs.TestLemmas.{has_number-decides, is_node_hit-decides}
 use Rattle.book_rules.proofs.ClosingLemmas.{MayRefuse, may-refuse}
 use Rattle.book_core.specs.declared.reply.Reply.{Reply}
@@ -87,7 +87,7 @@ module _ (b : Book) (id : ℕ) (node : Node) (holds : HoldsOnly b id node) (r : 
 
   -- ---- a ground that holds of the node
 
-  unrefused : (why : Ground) → IsClosedBy b.case.instance (IsHitBy b.case.instance b.cuts) IsNeverPriced (best_cost b) (slot_at b id).bound (slot_at b id).node.depth (slot_at b id).node.lines why → Step.refusal_of {Break = BrokenPlan} b id why ≡ None
+  unrefused : (why : Ground) → IsClosedBy b.case.instance (IsHitBy b.case.instance b.cuts) IsNeverPriced IsNeverSwept (best_cost b) (slot_at b id).bound (slot_at b id).node.depth (slot_at b id).node.lines why → Step.refusal_of {Break = BrokenPlan} b id why ≡ None
   unrefused by.Bound high = high-unrefused b (Step.refusal_of b id by.Bound) (slot_at b id).bound (best_cost b) refl refl high
   unrefused by.Throughput high = high-unrefused b (Step.refusal_of b id by.Throughput) (throughput_of b.case.instance) (best_cost b) refl refl high
   unrefused (by.Probe s) is =
@@ -99,5 +99,5 @@ module _ (b : Book) (id : ℕ) (node : Node) (holds : HoldsOnly b id node) (r : 
       cut-hits b id number hit
   unrefused (by.Price number) h = absurd h
 
-  pub sure_shut : (why : Ground) → IsClosedBy b.case.instance (IsHitBy b.case.instance b.cuts) IsNeverPriced (best_cost b) (slot_at b id).bound (slot_at b id).node.depth (slot_at b id).node.lines why → Answers b (close id why) r new → HoldsNothing new
+  pub sure_shut : (why : Ground) → IsClosedBy b.case.instance (IsHitBy b.case.instance b.cuts) IsNeverPriced IsNeverSwept (best_cost b) (slot_at b id).bound (slot_at b id).node.depth (slot_at b id).node.lines why → Answers b (close id why) r new → HoldsNothing new
   sure_shut why is answers = close_shut why answers (sure why (unrefused why is) answers)

@@ -25,7 +25,7 @@ use Rattle.closing_rules.specs.Grounds.{IsClosedBy}
 use Rattle.book_rules.specs.States.{IsHitBy}
 use Rattle.node_work.specs.declared.fate.Fate.{Fate}
 use Rattle.node_work.specs.declared.search.Search.{Search}
-use Rattle.node_work.specs.Fates.{IsNeverPriced, IsAnyway, IsEarly, IsFate, IsNodeCut, IsPlanAt, IsSpentAt}
+use Rattle.node_work.specs.Fates.{IsNeverPriced, IsNeverSwept, IsAnyway, IsEarly, IsFate, IsNodeCut, IsPlanAt, IsSpentAt}
 use Rattle.node_work.specs.Known.{HitsShips}
 use Rattle.solve_workers.specs.Closable.{IsClosable, IsDriversFate, IsOwnSearch}
 use Rattle.solve_workers.specs.Driving.{IsDriven}
@@ -76,9 +76,9 @@ module _ (b : Book) (id : ℕ) (n : Node) (holds : HoldsOnly b id n) where
   -- a ground that holds of the node closes it
   pub closable_shut : (why : Ground) (r : Reply) (new : Book) → IsSound b → IsClosable b n why → Answers b (close id why) r new → HoldsNothing new
   closable_shut why r new sound is answers =
-      let slot_is : IsClosedBy b.case.instance (IsHitBy b.case.instance b.cuts) IsNeverPriced (best_cost b) (slot_at b id).bound (slot_at b id).node.depth (slot_at b id).node.lines why =
-      subst (λ bound. IsClosedBy b.case.instance (IsHitBy b.case.instance b.cuts) IsNeverPriced (best_cost b) bound (slot_at b id).node.depth (slot_at b id).node.lines why) (sym (held_bound sound))
-      (subst (λ (t : Node). IsClosedBy b.case.instance (IsHitBy b.case.instance b.cuts) IsNeverPriced (best_cost b) (bound_of b.case.instance n.depth n.lines) t.depth t.lines why) (sym holds.node_is) is.closed) in
+      let slot_is : IsClosedBy b.case.instance (IsHitBy b.case.instance b.cuts) IsNeverPriced IsNeverSwept (best_cost b) (slot_at b id).bound (slot_at b id).node.depth (slot_at b id).node.lines why =
+      subst (λ bound. IsClosedBy b.case.instance (IsHitBy b.case.instance b.cuts) IsNeverPriced IsNeverSwept (best_cost b) bound (slot_at b id).node.depth (slot_at b id).node.lines why) (sym (held_bound sound))
+      (subst (λ (t : Node). IsClosedBy b.case.instance (IsHitBy b.case.instance b.cuts) IsNeverPriced IsNeverSwept (best_cost b) (bound_of b.case.instance n.depth n.lines) t.depth t.lines why) (sym holds.node_is) is.closed) in
       sure_shut b id n holds r new why slot_is answers
 
   -- the plan of the node makes its bound too high

@@ -8,13 +8,13 @@ use Rattle.book_rules.specs.States.{IsHitBy}
 use Rattle.lock_rules.specs.Node.{Node}
 use Rattle.node_work.specs.declared.fate.Fate.{Fate}
 use Rattle.node_work.specs.declared.search.Search.{Search}
-use Rattle.node_work.specs.Fates.{IsNeverPriced, IsFate}
+use Rattle.node_work.specs.Fates.{IsNeverPriced, IsNeverSwept, IsFate}
 use Rattle.node_work.specs.Known.{HitsShips}
 
 -- the ground holds of the node, by the book's cuts and its best cost
 pub record IsClosable (b : Book) (node : Node) (why : Ground) : Type 0 where
   pub closed :
-      IsClosedBy b.case.instance (IsHitBy b.case.instance b.cuts) IsNeverPriced (best_cost b)
+      IsClosedBy b.case.instance (IsHitBy b.case.instance b.cuts) IsNeverPriced IsNeverSwept (best_cost b)
       (bound_of b.case.instance node.depth node.lines) node.depth node.lines why
 
 -- what becomes of the node, by the book's cuts and its best cost
