@@ -5,7 +5,7 @@ ghost use Rattle.lock_rules.specs.Lines.{end_of};
 ghost use Rattle.lock_rules.specs.Plan.{flow_in, cost_of};
 
 use crate::service::duration;
-use lock_model::{Instance, Lockage, MOST, Plan, Ships};
+use lock_model::{Instance, Lockage, MOST, Plan, SHIPS, Ships};
 
 /// The minute at which a lockage ends.
 #[inline]
@@ -54,7 +54,7 @@ pub fn cost(instance: &Instance, plan: &Plan) -> u64
     requires ships_in { All (λ l. All (λ s. s < length instance.now.ships) l.ships) plan.now.lockages }
     requires arrived { All (λ l. All (λ s. (ship_at instance.now s).arrival ≤ l.start) l.ships) plan.now.lockages }
     ensures value { result ≡ cost_of instance.now plan.now }
-    ensures small { result < 2 ^ 41 }
+    ensures small { result ≤ SHIPS * 2 ^ 36 }
 {
     let mut sum = 0;
     for lockage in plan.lockages.as_slice() {

@@ -5,6 +5,7 @@ use Rattle.std.proofs.lemmas.Bool.Decides.{eqb_tells, leb_tells}
 use Rattle.std.proofs.lemmas.List.{get_or_append_left, get_or_default, length-append}
 use Rattle.std.proofs.lemmas.List.Elements.{All-append, All-contains, All-nil, All-push, All-weaker, Contains-append_left, Contains-append_right, Contains-get_or, Contains-push}
 use Rattle.list_laws.proofs.Lists.{Contains-before_push}
+use Rattle.lock_model.specs.declared.limits.TheConstants.{SHIPS}
 use Rattle.lock_model.specs.declared.instance.Instance.{Instance}
 use Rattle.lock_model.specs.declared.group.Group.{Group}
 use Rattle.price_rules.specs.Prices.{PlainCut, Spares}
@@ -87,11 +88,11 @@ module _ (I : Instance) (added : List (List ℕ)) (masks : List ℕ) (marks : Ar
       let own = marks.whole j d here here mine in
       All-contains (λ m. ¬ (bit_and m mask ≡ m)) masks own.mask apart own.held (in-mask own.mask mask set ships own.is is within)
 
-  missed-apart : length I.ships ≤ 32 → All (LacksSome ships) added → IsApart masks mask
+  missed-apart : length I.ships ≤ SHIPS → All (LacksSome ships) added → IsApart masks mask
   missed-apart few missed = λ j d here same.
       let own = marks.each j d here in
       All-contains (LacksSome ships) added own.set missed own.held
-      (mask-in (slice_index_or masks j d) mask own.set ships (All-weaker (λ s. s < length I.ships) (λ s. s < 32) (λ s h. omega (arith, h, few)) own.set own.known) own.is is same)
+      (mask-in (slice_index_or masks j d) mask own.set ships (All-weaker (λ s. s < length I.ships) (λ s. s < 128) (λ s h. omega (arith, h, few)) own.set own.known) own.is is same)
 
 module _ (I : Instance) (c k : ℕ) (sets added : List (List ℕ)) (base : Group) (n : ℕ) (g : Group) where
   -- a group has grown under more sets where it misses these too
@@ -120,7 +121,7 @@ module _ (I : Instance) (c k : ℕ) (sets added : List (List ℕ)) (base : Group
   }
 
 -- WHAT IS LEFT of a list is what grows under all the sets.
-pub spared-grown : (I : Instance) (c k : ℕ) (prices : List ℕ) (sets added : List (List ℕ)) (masks : List ℕ) (list spared : GrownList) → length I.ships ≤ 32 → AreMarks I added (length added) masks → IsSparedList masks list spared
+pub spared-grown : (I : Instance) (c k : ℕ) (prices : List ℕ) (sets added : List (List ℕ)) (masks : List ℕ) (list spared : GrownList) → length I.ships ≤ SHIPS → AreMarks I added (length added) masks → IsSparedList masks list spared
     → IsGrownList (group_ask I c k prices sets) list → IsGrownList (group_ask I c k prices (sets ++ added)) spared
 spared-grown I c k prices sets added masks list spared few marks is grown = record {
   each = λ j d here.
@@ -149,7 +150,7 @@ spared-grown I c k prices sets added masks list spared few marks is grown = reco
         record { one = has.one; held = subst (Contains spared.groups.items) at held; is = has.is }
 
 -- the same of all lists
-pub spared-all : (I : Instance) (c k : ℕ) (prices : List ℕ) (sets added : List (List ℕ)) (masks : List ℕ) (lists spared : List GrownList) → length I.ships ≤ 32 → AreMarks I added (length added) masks → AreSparedLists masks lists (length lists) spared
+pub spared-all : (I : Instance) (c k : ℕ) (prices : List ℕ) (sets added : List (List ℕ)) (masks : List ℕ) (lists spared : List GrownList) → length I.ships ≤ SHIPS → AreMarks I added (length added) masks → AreSparedLists masks lists (length lists) spared
     → All (IsGrownList (group_ask I c k prices sets)) lists → All (IsGrownList (group_ask I c k prices (sets ++ added))) spared
 spared-all I c k prices sets added masks lists spared few marks are grown = λ j d here.
     let less : j < length lists = omega (arith, here, are.count) in

@@ -10,7 +10,7 @@ ghost use Rattle.price_bound.specs.KeptGroups.{IsPutSpared, IsSparedList, AreSpa
 
 use lock_model::{SHIPS, Ships};
 use price_groups::{
-    CompletableSets, Extension, GrownGroup, GrownList, LineCase, completable_by_ship,
+    CompletableSets, Extension, GrownGroup, GrownList, LineCase, ShipMask, completable_by_ship,
     forbidden_sets, marks, misses_all_of, rates,
 };
 use price_table::least_line;
@@ -62,7 +62,7 @@ fn are_below(prices: &Prices, ceilings: &Prices) -> bool
 fn put_spared(
     groups: &mut Vec<GrownGroup>,
     one: &GrownGroup,
-    masks: &[u32],
+    masks: &[ShipMask],
 ) -> Result<(), PriceError>
     ensures { OnOk result (IsPutSpared masks.now one.now groups.old.items groups.new.items) }
 {
@@ -73,7 +73,7 @@ fn put_spared(
 }
 
 // What has grown from a base, without the groups that hold one of the sets of these masks.
-fn spared_list(alloc: Global, list: &GrownList, masks: &[u32]) -> Result<GrownList, PriceError>
+fn spared_list(alloc: Global, list: &GrownList, masks: &[ShipMask]) -> Result<GrownList, PriceError>
     ensures { IfOk result (IsSparedList masks.now list.now) }
 {
     let mut groups = Vec::new(alloc);
@@ -90,7 +90,7 @@ fn spared_list(alloc: Global, list: &GrownList, masks: &[u32]) -> Result<GrownLi
 fn spared_lists(
     alloc: Global,
     lists: &[GrownList],
-    masks: &[u32],
+    masks: &[ShipMask],
 ) -> Result<Vec<GrownList>, PriceError>
     ensures { IfOk result (λ spared. AreSparedLists masks.now lists.now (length lists.now) spared.items) }
 {

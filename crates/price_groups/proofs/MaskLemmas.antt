@@ -1,13 +1,14 @@
 -- Sets of ships as the bits of numbers.
-use Rattle.std.proofs.Common.{◌≡◌, ◌≢◌, ℕ, suc, ◌+◌, ◌*◌, ◌^◌, ◌/◌, ◌%◌, ◌<◌, ◌≤◌, min, cond, true, inl, inr, w32, List, [], ◌∷◌, ◌++◌, length, All, Contains, refl, sym, ap, ◌∙◌, subst, arith, slice_index_or, bit_and, bit_or}
-use Rattle.std.specs.Int.{bit_at}
+use Rattle.std.proofs.Common.{◌≡◌, ◌≢◌, ℕ, suc, ◌+◌, ◌*◌, ◌^◌, ◌/◌, ◌%◌, ◌<◌, ◌≤◌, min, cond, true, inl, inr, List, [], ◌∷◌, ◌++◌, length, All, Contains, refl, sym, ap, ◌∙◌, subst, arith, slice_index_or, bit_and, bit_or}
+use Rattle.std.specs.Int.{bit_at, w128}
 use Rattle.std.proofs.Math.Seq.{get_or-append_seam}
 use Rattle.std.proofs.lemmas.Bool.Decides.{eqb_tells, leb_tells}
-use Rattle.std.proofs.lemmas.Nat.{or_of_32, pow_pos, le-div}
+use Rattle.std.proofs.lemmas.Nat.{or_lt, pow_pos, le-div}
 use Rattle.std.proofs.lemmas.Nat.Bits.{bit_at_and, bit_at-lt, bit_at_above, bit_at_set_same, bit_at_set_other, same_from_bits}
 use Rattle.std.proofs.lemmas.List.{get_or_append_left, get_or_default, length-append}
 use Rattle.std.proofs.lemmas.List.Elements.{All-cons, All-nil, All-weaker, All-contains, All-push, Contains-get_or, Contains-push}
 use Rattle.list_laws.proofs.Lists.{Contains-before_push}
+use Rattle.lock_model.specs.declared.limits.TheConstants.{SHIPS}
 use Rattle.lock_model.specs.declared.instance.Instance.{Instance}
 use Rattle.lock_rules.specs.Plan.{times_in}
 use Rattle.lock_rules.specs.Children.{insert_number}
@@ -29,33 +30,33 @@ one-of xs x y at apart = elim (leb_tells (suc at.0) (length xs)) [
 ]
 
 -- one ship more
-pub mask-next : (mask s : ℕ) (xs : List ℕ) → s < 32 → IsMask mask xs → IsMask (bit_or mask (1 * 2 ^ s % 2 ^ 32)) (xs ++ s ∷ [])
+pub mask-next : (mask s : ℕ) (xs : List ℕ) → s < 128 → IsMask mask xs → IsMask (bit_or mask (1 * 2 ^ s % 2 ^ 128)) (xs ++ s ∷ [])
 mask-next mask s xs within is = record {
-  small = or_of_32 mask (1 * 2 ^ s % 2 ^ 32) is.small (omega arith);
+  small = or_lt 128 mask (1 * 2 ^ s % 2 ^ 128) is.small (omega arith);
   has = λ t at. elim (eqb_tells t s) [
-    | inl y ↦ ap (bit_at (bit_or mask (1 * 2 ^ s % 2 ^ 32))) y.1 ∙ bit_at_set_same w32 mask s within
-    | inr m ↦ bit_at_set_other w32 mask s within t m.1 ∙ is.has t (one-of xs s t at m.1)
+    | inl y ↦ ap (bit_at (bit_or mask (1 * 2 ^ s % 2 ^ 128))) y.1 ∙ bit_at_set_same w128 mask s within
+    | inr m ↦ bit_at_set_other w128 mask s within t m.1 ∙ is.has t (one-of xs s t at m.1)
   ];
   only = λ t few bit. elim (eqb_tells t s) [
     | inl y ↦ subst (Contains (xs ++ s ∷ [])) (sym y.1) (Contains-push xs s)
-    | inr m ↦ Contains-before_push xs s t (is.only t few (sym (bit_at_set_other w32 mask s within t m.1) ∙ bit))
+    | inr m ↦ Contains-before_push xs s t (is.only t few (sym (bit_at_set_other w128 mask s within t m.1) ∙ bit))
   ];
 }
 
 -- one ship more, wherever it is put
-pub mask-insert : (mask s : ℕ) (xs : List ℕ) → s < 32 → IsMask mask xs → IsMask (bit_or mask (1 * 2 ^ s % 2 ^ 32)) (insert_number s xs)
+pub mask-insert : (mask s : ℕ) (xs : List ℕ) → s < 128 → IsMask mask xs → IsMask (bit_or mask (1 * 2 ^ s % 2 ^ 128)) (insert_number s xs)
 mask-insert mask s xs within is = record {
-  small = or_of_32 mask (1 * 2 ^ s % 2 ^ 32) is.small (omega arith);
+  small = or_lt 128 mask (1 * 2 ^ s % 2 ^ 128) is.small (omega arith);
   has = λ t at. elim (eqb_tells s t) [
-    | inl y ↦ ap (bit_at (bit_or mask (1 * 2 ^ s % 2 ^ 32))) (sym y.1) ∙ bit_at_set_same w32 mask s within
+    | inl y ↦ ap (bit_at (bit_or mask (1 * 2 ^ s % 2 ^ 128))) (sym y.1) ∙ bit_at_set_same w128 mask s within
     | inr m ↦
         let held : Contains xs t = times-contains xs t (omega (arith, times_in-insert_number s t xs, ap {B = ℕ} (λ b. cond b 1 0) m.0, contains-times (insert_number s xs) t at)) in
-        bit_at_set_other w32 mask s within t (λ e. m.1 (sym e)) ∙ is.has t held
+        bit_at_set_other w128 mask s within t (λ e. m.1 (sym e)) ∙ is.has t held
   ];
   only = λ t few bit. elim (eqb_tells s t) [
     | inl y ↦ times-contains (insert_number s xs) t (omega (arith, times_in-insert_number s t xs, ap {B = ℕ} (λ b. cond b 1 0) y.0))
     | inr m ↦
-        let held = is.only t few (sym (bit_at_set_other w32 mask s within t (λ e. m.1 (sym e))) ∙ bit) in
+        let held = is.only t few (sym (bit_at_set_other w128 mask s within t (λ e. m.1 (sym e))) ∙ bit) in
         times-contains (insert_number s xs) t (omega (arith, times_in-insert_number s t xs, contains-times xs t held))
   ];
 }
@@ -71,7 +72,7 @@ before-mask mask s xs is none = λ j d here.
     ]
 
 -- a set is among ships where its bits are
-pub mask-in : (m mask : ℕ) (set ships : List ℕ) → All (λ s. s < 32) set → IsMask m set → IsMask mask ships → bit_and m mask ≡ m → AreIn ships set
+pub mask-in : (m mask : ℕ) (set ships : List ℕ) → All (λ s. s < 128) set → IsMask m set → IsMask mask ships → bit_and m mask ≡ m → AreIn ships set
 mask-in m mask set ships known is all same = record {
   among = λ j d here.
       let s = slice_index_or set j d in
@@ -83,7 +84,7 @@ pub in-mask : (m mask : ℕ) (set ships : List ℕ) → IsMask m set → IsMask 
 in-mask m mask set ships is all within = same_from_bits (bit_and m mask) m (λ s. bit_at_and m mask s ∙ each s)
   where
     each : (s : ℕ) → min (bit_at m s) (bit_at mask s) ≡ bit_at m s
-    each s = elim (leb_tells (suc s) 32) [
+    each s = elim (leb_tells (suc s) 128) [
       | inl few ↦ elim (leb_tells 1 (bit_at m s)) [
         | inl some ↦
             let own : bit_at m s ≡ 1 = omega (arith, some.1, bit_at-lt m s) in
@@ -91,7 +92,7 @@ in-mask m mask set ships is all within = same_from_bits (bit_and m mask) m (λ s
             omega (arith, own, other)
         | inr none ↦ omega (arith, none.1)
       ]
-      | inr past ↦ omega (arith, bit_at_above m 32 s is.small (omega (arith, past.1)))
+      | inr past ↦ omega (arith, bit_at_above m 128 s is.small (omega (arith, past.1)))
     ]
 
 pub earlier : (i j : ℕ) → j ≢ i → j < i + 1 → j < i
@@ -168,11 +169,11 @@ module _ (own early : ℕ) (marks : List ℕ) where
 -- ships that are allowed, listed one after another
 module _ (I : Instance) (k ship : ℕ) where
   pub allowed-first : AreAllowed I k ship 0 []
-  allowed-first = record { small = All-nil (λ s. s < 32); whole = λ s none is. absurd (omega (arith, none)) }
+  allowed-first = record { small = All-nil (λ s. s < SHIPS); whole = λ s none is. absurd (omega (arith, none)) }
 
-  pub allowed-more : (n : ℕ) (old : List ℕ) → n < 32 → AreAllowed I k ship n old → AreAllowed I k ship (n + 1) (old ++ n ∷ [])
+  pub allowed-more : (n : ℕ) (old : List ℕ) → n < SHIPS → AreAllowed I k ship n old → AreAllowed I k ship (n + 1) (old ++ n ∷ [])
   allowed-more n old few are = record {
-    small = All-push (λ s. s < 32) old n are.small few;
+    small = All-push (λ s. s < SHIPS) old n are.small few;
     whole = λ s less is. elim (eqb_tells s n) [
       | inl y ↦ subst (Contains (old ++ n ∷ [])) (sym y.1) (Contains-push old n)
       | inr m ↦ Contains-before_push old n s (are.whole s (earlier n s m.1 less) is)
@@ -198,7 +199,7 @@ completable-first I k sets = record { count = refl; each = λ s d none. absurd (
 
 module _ (I : Instance) (k : ℕ) (sets : List (List ℕ)) (ship : ℕ) where
   module _ (masks : List ℕ) (completable : AreCompletable I k sets (length sets) ship masks) (ships : List ℕ) (mask : ℕ) (is : IsMask mask (insert_number ship ships))
-      (known : All (λ s. s < length I.ships) (insert_number ship ships)) (few : length I.ships ≤ 32) where
+      (known : All (λ s. s < length I.ships) (insert_number ship ships)) (few : length I.ships ≤ SHIPS) where
     -- NO OTHER SET can be among ships that held none before the ship.
     pub completable-missed : All (IsAllowed I k ship) ships → All (LacksSome ships) sets → All (λ m. ¬ (bit_and m mask ≡ m)) masks → All (LacksSome (insert_number ship ships)) sets
     completable-missed allowed before apart = λ j d here within.
@@ -227,4 +228,4 @@ module _ (I : Instance) (k : ℕ) (sets : List (List ℕ)) (ship : ℕ) where
     missed-completable missed = λ j d here same.
         let own = completable.each j d here in
         All-contains (LacksSome (insert_number ship ships)) sets own.set missed own.held
-        (mask-in (slice_index_or masks j d) mask own.set (insert_number ship ships) (All-weaker (λ s. s < length I.ships) (λ s. s < 32) (λ s h. omega (arith, h, few)) own.set own.known) own.is is same)
+        (mask-in (slice_index_or masks j d) mask own.set (insert_number ship ships) (All-weaker (λ s. s < length I.ships) (λ s. s < 128) (λ s h. omega (arith, h, few)) own.set own.known) own.is is same)

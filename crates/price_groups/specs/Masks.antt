@@ -1,6 +1,7 @@
 -- Ships as the bits of a number.
 use Rattle.std.specs.Prelude.{ℕ, suc, ◌≡◌, ◌<◌, ◌^◌, ◌⊎◌, true, List, [], ◌∷◌, ◌++◌, length, All, Contains, bit_and, slice_index_or}
 use Rattle.std.specs.Int.{bit_at}
+use Rattle.lock_model.specs.declared.limits.TheConstants.{SHIPS}
 use Rattle.lock_model.specs.declared.instance.Instance.{Instance}
 use Rattle.price_groups.specs.declared.completable_sets.CompletableSets.{CompletableSets}
 use Rattle.price_rules.specs.Prices.{is_missing}
@@ -9,9 +10,9 @@ use Rattle.price_groups.specs.Growing.{IsAllowed}
 
 -- the bits of the number are these ships
 pub record IsMask (mask : ℕ) (ships : List ℕ) : Type 0 where
-  pub small : mask < 2 ^ 32
+  pub small : mask < 2 ^ 128
   pub has : (s : ℕ) → Contains ships s → bit_at mask s ≡ 1
-  pub only : (s : ℕ) → s < 32 → bit_at mask s ≡ 1 → Contains ships s
+  pub only : (s : ℕ) → s < 128 → bit_at mask s ≡ 1 → Contains ships s
 
 -- a mask of one of the sets, whose ships are the instance's
 pub record IsSetMask (I : Instance) (sets : List (List ℕ)) (mask : ℕ) : Type 0 where
@@ -34,9 +35,9 @@ pub record AreCompletable (I : Instance) (k : ℕ) (sets : List (List ℕ)) (i s
       → All (IsAllowed I k (suc ship)) (slice_index_or sets j d) → All (λ s. s < length I.ships) (slice_index_or sets j d)
       → HasMask masks (slice_index_or sets j d)
 
--- of the first n ships those that are allowed up to a ship, all of them below 32
+-- of the first n ships those that are allowed up to a ship, all of them below the most ships of an instance
 pub record AreAllowed (I : Instance) (k ship n : ℕ) (ships : List ℕ) : Type 0 where
-  pub small : All (λ s. s < 32) ships
+  pub small : All (λ s. s < SHIPS) ships
   pub whole : (s : ℕ) → s < n → IsAllowed I k (suc ship) s → Contains ships s
 
 -- masks of sets, and of each of the first i sets whose ships are the instance's

@@ -1,5 +1,6 @@
 //! Uncut groups, listed by growing them ship by ship.
 ghost use Rattle.std.specs.Prelude.{◌≡◌, ◌+◌, ◌<◌, ◌≤◌, ◌↔◌, length, All, IsTrue, IfSome, IfNone, OnOk, IfOk};
+ghost use Rattle.lock_model.specs.declared.limits.TheConstants.{SHIPS};
 ghost use Rattle.lock_rules.specs.Plan.{times_in};
 ghost use Rattle.lock_rules.specs.Children.{with_ship};
 ghost use Rattle.master_branch.specs.Steps.{group_in};
@@ -13,7 +14,7 @@ use crate::extension::Extension;
 use crate::forbidden::misses_all;
 use crate::idling::has_idler;
 use crate::line_case::LineCase;
-use crate::masks::{are_before, misses_all_of, with_bit};
+use crate::masks::{ShipMask, are_before, misses_all_of, with_bit};
 use crate::sums::Sums;
 use crate::weighing::{more_sums, sums_of};
 use lock_model::{Group, MOST};
@@ -37,8 +38,8 @@ fn may_grow(case: &LineCase, base: &Group, ship: u8) -> bool
 }
 
 // The group with a ship more, which mostly comes behind all others.
-fn with_more(group: &Group, mask: u32, ship: u8) -> Group
-    requires known { ship < 32 }
+fn with_more(group: &Group, mask: ShipMask, ship: u8) -> Group
+    requires known { ship < SHIPS }
     requires mask { IsMask mask group.now.ships }
     requires room { length group.now.ships < MOST }
     requires absent { times_in group.now.ships ship ≡ 0 }
@@ -59,9 +60,9 @@ fn with_more(group: &Group, mask: u32, ship: u8) -> Group
 // among them.
 fn joined(
     extension: &Extension,
-    completable: &[u32],
+    completable: &[ShipMask],
     group: &Group,
-    mask: u32,
+    mask: ShipMask,
     ship: u8,
 ) -> Option<Group>
     requires mask { IsMask mask group.now.ships }
@@ -119,7 +120,7 @@ fn put_joined(
 // Joins a ship to the group at a place, where that may be.
 fn join(
     extension: &Extension,
-    completable: &[u32],
+    completable: &[ShipMask],
     groups: &mut Vec<Group>,
     sums: &mut Vec<Sums>,
     place: usize,
@@ -150,7 +151,7 @@ fn join(
 // Joins a ship to each of the groups that have not met it.
 fn join_each(
     extension: &Extension,
-    completable: &[u32],
+    completable: &[ShipMask],
     base: &Group,
     groups: &mut Vec<Group>,
     sums: &mut Vec<Sums>,

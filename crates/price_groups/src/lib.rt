@@ -29,6 +29,6 @@ pub use extension::Extension;
 pub use forbidden::{are_spared, forbidden_sets};
 pub use grown_lists::{GrownGroup, GrownList, list_for};
 pub use line_case::LineCase;
-pub use masks::{completable_by_ship, marks, misses_all_of};
+pub use masks::{ShipMask, completable_by_ship, marks, misses_all_of};
 pub use sums::Sums;
 pub use weighing::rates;

@@ -1,5 +1,6 @@
 //! Ship sets as numbers, so that a group is held against many of them fast.
 ghost use Rattle.std.specs.Prelude.{ℕ, ◌≡◌, ◌+◌, ◌<◌, ◌↔◌, true, List, length, All, IsTrue, IfOk, OnOk, bit_and};
+ghost use Rattle.lock_model.specs.declared.limits.TheConstants.{SHIPS};
 ghost use Rattle.lock_rules.specs.Children.{insert_number};
 ghost use Rattle.price_groups.specs.Masks.{IsMask, AreAllowed, AreMarks, IsNoted, IsBetween, AreHaving, IsPutBetween};
 ghost use Rattle.price_groups.specs.Masks.{AreAllCompletable, AreCompletableOf, AreCompletableByMissing};
@@ -11,9 +12,12 @@ use lock_model::{Instance, Ships};
 use price_terms::{PriceError, append};
 use std::alloc::Global;
 
+/// Ships as the bits of a number.
+pub type ShipMask = u128;
+
 /// The number whose bits are these ships.
-pub(crate) fn mask_of(ships: &[u8]) -> u32
-    requires { All (λ s. s < 32) ships.now }
+pub(crate) fn mask_of(ships: &[u8]) -> ShipMask
+    requires { All (λ s. s < SHIPS) ships.now }
     ensures { IsMask result ships.now }
 {
     let mut mask = 0;
@@ -25,8 +29,8 @@ pub(crate) fn mask_of(ships: &[u8]) -> u32
 
 #[inline(always)]
 /// The number whose bits are those ships and one more.
-pub(crate) fn with_bit(mask: u32, ship: u8) -> u32
-    requires { ship < 32 }
+pub(crate) fn with_bit(mask: ShipMask, ship: u8) -> ShipMask
+    requires { ship < SHIPS }
     ensures { (ships : List ℕ) → IsMask mask ships → IsMask result (insert_number ship ships) }
 {
     mask | 1 << ship
@@ -34,22 +38,22 @@ pub(crate) fn with_bit(mask: u32, ship: u8) -> u32
 
 #[inline(always)]
 /// Whether all ships of a number are before one.
-pub(crate) fn are_before(mask: u32, ship: u8) -> bool
-    requires { ship < 32 }
+pub(crate) fn are_before(mask: ShipMask, ship: u8) -> bool
+    requires { ship < SHIPS }
     ensures { (ships : List ℕ) → IsMask mask ships → IsTrue result → All (λ s. s < ship) ships }
 {
     mask >> ship == 0
 }
 
 // Whether all bits of a set are among those of a number.
-fn is_among(set: u32, mask: u32) -> bool
+fn is_among(set: ShipMask, mask: ShipMask) -> bool
     ensures { IsTrue result ↔ (bit_and set mask ≡ set) }
 {
     set & mask == set
 }
 
 /// Whether none of the sets is among the ships of a mask.
-pub fn misses_all_of(sets: &[u32], mask: u32) -> bool
+pub fn misses_all_of(sets: &[ShipMask], mask: ShipMask) -> bool
     ensures { IsTrue result ↔ All (λ set. ¬ (bit_and set mask ≡ set)) sets.now }
 {
     for &set in sets {
@@ -61,7 +65,7 @@ pub fn misses_all_of(sets: &[u32], mask: u32) -> bool
 }
 
 // Appends the mask of a set, where its ships are the instance's.
-fn note(masks: &mut Vec<u32>, instance: &Instance, set: &[u8]) -> Result<(), PriceError>
+fn note(masks: &mut Vec<ShipMask>, instance: &Instance, set: &[u8]) -> Result<(), PriceError>
     ensures { OnOk result (IsNoted instance.now set.now masks.old.items masks.new.items) }
 {
     if are_known(instance, set) {
@@ -71,7 +75,11 @@ fn note(masks: &mut Vec<u32>, instance: &Instance, set: &[u8]) -> Result<(), Pri
 }
 
 /// The masks of the sets whose ships are the instance's.
-pub fn marks(alloc: Global, instance: &Instance, sets: &[Ships]) -> Result<Vec<u32>, PriceError>
+pub fn marks(
+    alloc: Global,
+    instance: &Instance,
+    sets: &[Ships],
+) -> Result<Vec<ShipMask>, PriceError>
     ensures { IfOk result (λ masks. AreMarks instance.now sets.now (length sets.now) masks.items) }
 {
     let mut masks = Vec::new(alloc);
@@ -82,14 +90,19 @@ pub fn marks(alloc: Global, instance: &Instance, sets: &[Ships]) -> Result<Vec<u
 }
 
 // Whether a number has all bits of one number, and none but those of another.
-fn is_between(own: u32, early: u32, mask: u32) -> bool
+fn is_between(own: ShipMask, early: ShipMask, mask: ShipMask) -> bool
     ensures { IsTrue result ↔ IsBetween own early mask }
 {
     is_among(own, mask) && is_among(mask, early)
 }
 
 // Appends a mask, where it lies between two numbers.
-fn put_between(masks: &mut Vec<u32>, own: u32, early: u32, mask: u32) -> Result<(), PriceError>
+fn put_between(
+    masks: &mut Vec<ShipMask>,
+    own: ShipMask,
+    early: ShipMask,
+    mask: ShipMask,
+) -> Result<(), PriceError>
     ensures { OnOk result (IsPutBetween own early mask masks.old.items masks.new.items) }
 {
     if is_between(own, early, mask) {
@@ -99,7 +112,12 @@ fn put_between(masks: &mut Vec<u32>, own: u32, early: u32, mask: u32) -> Result<
 }
 
 // Those of the masks that lie between two numbers.
-fn having(alloc: Global, marks: &[u32], own: u32, early: u32) -> Result<Vec<u32>, PriceError>
+fn having(
+    alloc: Global,
+    marks: &[ShipMask],
+    own: ShipMask,
+    early: ShipMask,
+) -> Result<Vec<ShipMask>, PriceError>
     ensures { IfOk result (λ masks. AreHaving own early marks.now (length marks.now) masks.items) }
 {
     let mut masks = Vec::new(alloc);
@@ -111,7 +129,7 @@ fn having(alloc: Global, marks: &[u32], own: u32, early: u32) -> Result<Vec<u32>
 
 // Appends a ship, where the node holds it or it is no later than another one.
 fn put_allowed(ships: &mut Vec<u8>, case: &LineCase, last: u8, ship: u8) -> Result<(), PriceError>
-    requires few { ship < 32 }
+    requires few { ship < SHIPS }
     requires before { AreAllowed case.now.instance.now case.now.depth last ship ships.old.items }
     ensures { OnOk result (AreAllowed case.now.instance.now case.now.depth last (ship + 1) ships.new.items) }
 {
@@ -136,10 +154,10 @@ fn allowed(alloc: Global, case: &LineCase, last: u8) -> Result<Vec<u8>, PriceErr
 fn completable_by(
     alloc: Global,
     case: &LineCase,
-    marks: &[u32],
+    marks: &[ShipMask],
     ship: u8,
 ) -> Result<CompletableSets, PriceError>
-    requires { ship < 32 }
+    requires { ship < SHIPS }
     ensures { IfOk result (λ completable. AreCompletableOf case.now.instance.now case.now.depth marks.now ship completable.masks.items) }
 {
     let own = mask_of(&[ship]);
@@ -153,10 +171,10 @@ fn completable_by(
 fn completable_by_missing(
     alloc: Global,
     case: &LineCase,
-    marks: &[u32],
+    marks: &[ShipMask],
     ship: u8,
 ) -> Result<CompletableSets, PriceError>
-    requires { ship < 32 }
+    requires { ship < SHIPS }
     ensures { IfOk result (λ completable. AreCompletableByMissing case.now.instance.now case.now.depth marks.now ship completable.masks.items) }
 {
     if case.lacks(ship) {

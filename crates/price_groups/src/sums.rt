@@ -1,6 +1,8 @@
 //! The sums of groups that grow.
 ghost use Rattle.std.specs.Prelude.{◌≡◌, ◌+◌, ◌≤◌};
 
+use crate::masks::ShipMask;
+
 /// Those sums of a group by which it is served that don't hang on prices; the least that one of the
 /// ships that joined it may count, which helps speed alone; and the number whose bits are its ships.
 #[derive(Clone, Copy)]
@@ -8,7 +10,7 @@ pub struct Sums {
     pub duration: u32,
     pub last: u32,
     pub least: u32,
-    pub mask: u32,
+    pub mask: ShipMask,
 }
 
 impl Sums {

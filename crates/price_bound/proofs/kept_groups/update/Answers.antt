@@ -40,5 +40,5 @@ returns-clause-right c = λ ceilings right.
       completable = subst (λ sets. AreAllCompletable I k sets (length I.ships) c.in_ok-own-2.field-0.items) held c.in_ok-own-2.ensures;
       lists =
           subst (λ sets. All (IsGrownList (group_ask I chamber k ceilings sets)) c.in_ok-own.field-0.items) (sym sets)
-          (spared-all I chamber k ceilings own.sets.items added masks own.lists.items c.in_ok-own.field-0.items (omega (arith, I.limits.ship_count.1)) marks spared right.lists);
+          (spared-all I chamber k ceilings own.sets.items added masks own.lists.items c.in_ok-own.field-0.items I.limits.ship_count.1 marks spared right.lists);
     }

@@ -1,5 +1,6 @@
 use Rattle.std.proofs.Common.{◌≡◌, ◌<◌, ◌≤◌, length, refl, All, ap, arith, rules}
 use Rattle.std.specs.Prelude.{bit_and}
+use Rattle.lock_model.specs.declared.limits.TheConstants.{SHIPS}
 use Rattle.lock_rules.specs.Children.{insert_number}
 use Rattle.lock_rules.proofs.NodeLemmas.{All-insert_number}
 use Rattle.price_groups.specs.Masks.{IsMask}
@@ -18,7 +19,7 @@ returns-then-misses_all_of-clause-some c =
     let ship = c.args.ship in
     let old = c.args.group.now.ships in
     let known = All-insert_number (λ s. s < length I.ships) ship old c.requires.known c.requires.ships_in in
-    let few : length I.ships ≤ 32 = omega (arith, I.limits.ship_count.1) in
+    let few : length I.ships ≤ SHIPS = I.limits.ship_count.1 in
     let is : IsMask c.with_bit.result (insert_number ship old) = c.with_bit.ensures old c.requires.mask in
     let apart : All (λ m. ¬ (bit_and m c.with_bit.result ≡ m)) c.args.completable.now = c.if-misses_all_of.ensures.0 refl in
     let most = ap (λ l. l.most) c.args.extension.now.case.now.is in
@@ -30,7 +31,7 @@ returns-else-misses_all_of-clause-none c = λ may.
     let ship = c.args.ship in
     let old = c.args.group.now.ships in
     let known = All-insert_number (λ s. s < length I.ships) ship old c.requires.known c.requires.ships_in in
-    let few : length I.ships ≤ 32 = omega (arith, I.limits.ship_count.1) in
+    let few : length I.ships ≤ SHIPS = I.limits.ship_count.1 in
     let is : IsMask c.with_bit.result (insert_number ship old) = c.with_bit.ensures old c.requires.mask in
     let hit : ¬ All (λ m. ¬ (bit_and m c.with_bit.result ≡ m)) c.args.completable.now = search rules in
     hit (missed-completable I c.args.extension.now.case.now.depth c.args.extension.now.sets.now ship c.args.completable.now c.requires.completable old c.with_bit.result is known few may.missed)

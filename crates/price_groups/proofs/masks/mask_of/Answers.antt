@@ -9,5 +9,5 @@ loop-ship-preserved c =
     let ships = c.args.ships.now in
     let i = c.loop-ship.ship-index in
     let up : suc i ≡ i + 1 = omega arith in
-    let more = bit_or c.loop-ship.mask (1 * 2 ^ slice_index_or ships i 0 % 2 ^ 32) in
-    subst (λ n. IsMask more (take n ships)) up (subst (IsMask more) (sym (take-suc ships i 0 c.loop-ship-test.true)) (mask-next c.loop-ship.mask (slice_index_or ships i 0) (take i ships) (c.requires i 0 c.loop-ship-test.true) c.loop-ship.invariant))
+    let more = bit_or c.loop-ship.mask (1 * 2 ^ slice_index_or ships i 0 % 2 ^ 128) in
+    subst (λ n. IsMask more (take n ships)) up (subst (IsMask more) (sym (take-suc ships i 0 c.loop-ship-test.true)) (mask-next c.loop-ship.mask (slice_index_or ships i 0) (take i ships) (omega (arith, c.requires i 0 c.loop-ship-test.true)) c.loop-ship.invariant))
