@@ -1,10 +1,9 @@
-//! The values of the states behind a line, asked one after another.
-ghost use Rattle.std.specs.Prelude.{◌≡◌, ◌≤◌, [], IfOk};
+//! The values of a chamber's states behind no line, asked one after another.
+ghost use Rattle.std.specs.Prelude.{◌≡◌, ◌≤◌, [], All, IfOk, OnOk};
 ghost use Rattle.price_groups.specs.Asked.{line_asked, group_asked};
 ghost use Rattle.price_groups.specs.GrownLists.{IsGrownList};
 ghost use Rattle.price_groups.specs.Masks.{AreAllCompletableIn};
-ghost use Rattle.price_table.specs.Ends.{IsLeastBehind};
-ghost use Rattle.std.specs.Prelude.{All};
+ghost use Rattle.price_table.specs.Ends.{AreEndValues, IsLeastBehind};
 
 use crate::horizon::horizon;
 use crate::least::value_of;
@@ -13,14 +12,13 @@ use crate::state::State;
 use crate::table::Table;
 use crate::values::Values;
 use lock_model::Stand;
-use price_successors::SuccessorList;
 use price_groups::{Extension, GrownList, LineCase};
+use price_successors::SuccessorList;
 use price_terms::PriceError;
 use std::alloc::Global;
-use std::marker::Model;
 
-/// The table of a chamber without a line of its own, in which the least worth of ways to go on by
-/// missing ships alone is asked of any minute, in hundredths of a minute. What is worked out is kept.
+/// The table of a chamber without a line, in which the least worth of ways to go on by missing ships alone
+/// is asked of any minute, in hundredths of a minute. What is worked out is kept.
 #[derive(Drop)]
 pub struct EndValues<'a> {
     alloc: Global,
@@ -29,18 +27,6 @@ pub struct EndValues<'a> {
     horizon: u64,
     turns: u64,
     values: Values,
-}
-
-impl<'a> Model for EndValues<'a> {
-    ghost use Rattle.price_groups.specs.Asked.{line_asked};
-    ghost use Rattle.price_groups.specs.Asks.{LineAsk};
-    ghost use Rattle.price_table.specs.Ends.{AreEndValues};
-
-    ghost Value = { LineAsk };
-
-    ghost view = { λ a. line_asked a.case.now };
-
-    ghost invariant = { λ a. AreEndValues a.case.now a.successor_lists.items a.horizon a.values };
 }
 
 impl<'a> EndValues<'a> {
@@ -58,7 +44,8 @@ impl<'a> EndValues<'a> {
         requires completable { AreAllCompletableIn (group_asked extension.now) extension.now.completable.now }
         requires lists { All (IsGrownList (group_asked extension.now)) lists.old.items }
         ensures lists { All (IsGrownList (group_asked extension.now)) lists.new.items }
-        ensures asked { IfOk result (λ values. values ≡ line_asked case.now) }
+        ensures are { IfOk result AreEndValues }
+        ensures asked { IfOk result (λ values. line_asked values.case.now ≡ line_asked case.now) }
     {
         let successor_lists = successor_lists_for(alloc, extension, lists)?;
         let horizon = horizon(case);
@@ -75,9 +62,11 @@ impl<'a> EndValues<'a> {
 
     /// The least worth of ways to go on, where the chamber stands so and is free at a minute.
     pub fn least(&mut self, stand: Stand, minute: u64) -> Result<i64, PriceError>
+        requires are { AreEndValues self.old }
         requires minute { minute ≤ 14000000 }
-        ensures asked { self.new ≡ self.old }
-        ensures least { IfOk result (IsLeastBehind self.old stand minute) }
+        ensures same { self.new.case ≡ self.old.case }
+        ensures are { OnOk result (AreEndValues self.new) }
+        ensures least { IfOk result (IsLeastBehind (line_asked self.old.case.now) stand minute) }
     {
         let table = Table {
             case: self.case,
@@ -94,7 +83,10 @@ impl<'a> EndValues<'a> {
     }
 
     /// A minute from which on no way to go on is worth less than 0.
-    pub fn horizon(&self) -> u64 {
+    pub fn horizon(&self) -> u64
+        requires { AreEndValues self.now }
+        ensures { result ≤ 1010000 }
+    {
         self.horizon
     }
 }

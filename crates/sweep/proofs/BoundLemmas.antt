@@ -2,7 +2,7 @@
 use Rattle.std.proofs.Common.{◌≡◌, ◌≢◌, ℕ, ℤ, pos, ◌+ℤ◌, ◌-ℤ◌, ◌≤ℤ◌, ◌+◌, ◌-◌, ◌*◌, ◌<◌, ◌≤◌, not, Bool, true, false, cond, inl, inr, List, [], ◌∷◌, ◌++◌, length, sum_by, filter, refl, sym, ap, ◌∙◌, subst, arith, slice_index_or, slice_set}
 use Rattle.std.proofs.lemmas.Int.{ints}
 use Rattle.std.proofs.lemmas.Bool.Decides.{eqb_tells}
-use Rattle.std.proofs.lemmas.List.{get_or-set_same, get_or-set_other, get_or_default}
+use Rattle.std.proofs.lemmas.List.{length-set, get_or-set_same, get_or-set_other}
 use Rattle.std.proofs.lemmas.List.Elements.{filter-append}
 use Rattle.std.proofs.lemmas.List.Sums.{sum_by-append}
 use Rattle.lock_model.specs.declared.way.Way.{Way}
@@ -18,9 +18,13 @@ use Rattle.sweep_labels.specs.declared.ready_times.ReadyTimes.{ReadyTimes}
 use Rattle.sweep_labels.specs.Labels.{label_of, ready_by, times_at}
 use Rattle.sweep_labels.specs.Arcs.{IsGainBehind, gains_with}
 use Rattle.sweep_labels.proofs.ArcLemmas.{own-gain, other-gain}
+use Rattle.sweep_labels.specs.declared.step.Arc.{Arc}
+use Rattle.sweep_arcs.specs.declared.asked.ArcsAsked.{ArcsAsked}
+use Rattle.sweep_arcs.specs.declared.lane.Lane.{Lane}
+use Rattle.sweep_arcs.specs.Lanes.{ask_of, IsSameLane, HasGain, HasArcs}
 use Rattle.sweep.specs.declared.sweep_case.SweepCase.{SweepCase}
 use Rattle.sweep.specs.declared.origin.Origin.{Origin}
-use Rattle.sweep.specs.Bounds.{cuts_of, AreLanes, gain_in, AreGainsTo, IsRoom}
+use Rattle.sweep.specs.Bounds.{cuts_of, AreLanes, IsLaneOf, AreArcsAsked, gain_in, AreGainsTo, IsRoom}
 
 zero-plus : (n : ℕ) → 0 + n ≡ n
 zero-plus n = omega arith
@@ -56,14 +60,14 @@ module _ (f : ℕ → ℕ) (p : ℕ → Bool) (n : ℕ) where
 pub gains_none : (case : SweepCase) (label : Label) (gains : List ℕ) → AreGainsTo case label 0 gains
 gains_none case label gains = record { each = λ c none. absurd (omega (arith, none)) }
 
-pub gains_more : (case : SweepCase) (lanes : List LineAsk) (label : CodeLabel) (n : ℕ) (gains : List ℕ) (gain : ℕ) → AreLanes case lanes → n < length case.instance.now.chambers → n < length gains
-    → ((d : LineAsk) → let lane = slice_index_or lanes n d in IsGainBehind lane.instance lane.cuts lane.prices lane.chamber (times_at label.ready n) gain)
+pub gains_more : (case : SweepCase) (label : CodeLabel) (n : ℕ) (gains : List ℕ) (gain : ℕ) → n < length gains
+    → IsGainBehind case.instance.now (cuts_of case) case.prices.now n (times_at label.ready n) gain
     → AreGainsTo case (label_of label) n gains → AreGainsTo case (label_of label) (n + 1) (slice_set gains n gain)
-gains_more case lanes label n gains gain are known within here all = record {
+gains_more case label n gains gain within here all = record {
   each = λ c less. elim (eqb_tells c n) [
     | inl y ↦
         subst (λ c. IsGain case.instance.now c (cuts_of case) (label_of label) case.prices.now (gain_in (slice_set gains n gain) c)) (sym y.1)
-        (subst (IsGain case.instance.now n (cuts_of case) (label_of label) case.prices.now) (sym (get_or-set_same gains n gain 0 within)) own)
+        (subst (IsGain case.instance.now n (cuts_of case) (label_of label) case.prices.now) (sym (get_or-set_same gains n gain 0 within)) (here.is (label_of label) (λ way. refl)))
     | inr m ↦
         subst (IsGain case.instance.now c (cuts_of case) (label_of label) case.prices.now) (sym (get_or-set_other gains n c gain 0 m.1)) (all.each c (before c m.1 less))
   ];
@@ -72,10 +76,32 @@ gains_more case lanes label n gains gain are known within here all = record {
     before : (c : ℕ) → c ≢ n → c < n + 1 → c < n
     before c other less = omega arith
 
-    own : IsGain case.instance.now n (cuts_of case) (label_of label) case.prices.now gain
-    own =
-        let e : LineAsk = line_ask case.instance.now n (cuts_of case) 0 case.prices.now [] in
-        (subst (λ (lane : LineAsk). IsGainBehind lane.instance lane.cuts lane.prices lane.chamber (times_at label.ready n) gain) (are.each n e known) (here e)).is (label_of label) (λ way. refl)
+-- a lane was asked: it is the same, and what it says is of its chamber
+pub lanes_set : (case : SweepCase) (lanes : List Lane) (c : ℕ) (old new : Lane) → AreLanes case lanes → c < length case.instance.now.chambers
+    → ((d : Lane) → slice_index_or lanes c d ≡ old) → IsSameLane old new → AreLanes case (slice_set lanes c new)
+lanes_set case lanes c old new are known here same = record {
+  count = length-set lanes c new ∙ are.count;
+  each = λ k d less. elim (eqb_tells k c) [
+    | inl y ↦
+        subst (λ k. IsLaneOf case.instance.now (cuts_of case) case.prices.now k (slice_index_or (slice_set lanes c new) k d)) (sym y.1)
+        (subst (IsLaneOf case.instance.now (cuts_of case) case.prices.now c) (sym (get_or-set_same lanes c new d (omega (arith, known, are.count))))
+        (record { is = same.is; ask = same.same ∙ ap ask_of (sym (here d)) ∙ (are.each c d known).ask }))
+    | inr m ↦
+        subst (IsLaneOf case.instance.now (cuts_of case) case.prices.now k) (sym (get_or-set_other lanes c k new d m.1)) (are.each k d less)
+  ];
+}
+
+pub lane_gain : (case : SweepCase) (lanes : List Lane) (c : ℕ) (old : Lane) (times : ReadyTimes) (gain : ℕ) → AreLanes case lanes → c < length case.instance.now.chambers
+    → ((d : Lane) → slice_index_or lanes c d ≡ old) → HasGain (ask_of old) times gain → IsGainBehind case.instance.now (cuts_of case) case.prices.now c times gain
+lane_gain case lanes c old times gain are known here has =
+    let own : ask_of old ≡ line_ask case.instance.now c (cuts_of case) 0 case.prices.now [] = ap ask_of (sym (here old)) ∙ (are.each c old known).ask in
+    (subst (λ (ask : LineAsk). HasGain ask times gain) own has).is
+
+pub lane_arcs : (case : SweepCase) (lanes : List Lane) (c : ℕ) (old : Lane) (asked : ArcsAsked) (arcs : List Arc) → AreLanes case lanes → c < length case.instance.now.chambers
+    → ((d : Lane) → slice_index_or lanes c d ≡ old) → HasArcs (ask_of old) asked arcs → AreArcsAsked case c asked arcs
+lane_arcs case lanes c old asked arcs are known here has =
+    let own : ask_of old ≡ line_ask case.instance.now c (cuts_of case) 0 case.prices.now [] = ap ask_of (sym (here old)) ∙ (are.each c old known).ask in
+    (subst (λ (ask : LineAsk). HasArcs ask asked arcs) own has).are
 
 -- the room that the goal leaves
 pub room_wide : (case : SweepCase) (from : Origin) (c goal sum beside low high : ℕ) (room : ℤ) → c < length case.instance.now.chambers

@@ -4,7 +4,6 @@ use Rattle.std.proofs.lemmas.List.{get_or_append_left}
 use Rattle.lock_model.specs.declared.group.Group.{Group}
 use Rattle.lock_model.specs.declared.way.Way.{Way}
 use Rattle.lock_rules.specs.Arrival.{numbers_from}
-use Rattle.price_groups.specs.Asks.{LineAsk}
 use Rattle.price_rules.specs.Prices.{price_at}
 use Rattle.sweep_rules.specs.Uncut.{IsSwept}
 use Rattle.sweep_rules.specs.Label.{Label, CanGoOn, IsGoneOn, gone_on}

@@ -1,11 +1,10 @@
 -- What was met stays so as a sweep goes on.
-use Rattle.std.proofs.Common.{◌≡◌, ℕ, ◌+◌, ◌<◌, ◌≤◌, Bool, false, inl, inr, List, [], ◌++◌, length, refl, sym, ap, ◌∙◌, subst, arith, slice_index_or, slice_set, append-nil, append_assoc, length-append}
+use Rattle.std.proofs.Common.{◌≡◌, ◌≢◌, ℕ, ◌+◌, ◌<◌, ◌≤◌, false, inl, inr, List, [], ◌++◌, length, refl, sym, ap, ◌∙◌, subst, arith, slice_index_or, slice_set, append-nil, append_assoc, length-append}
 use Rattle.std.proofs.lemmas.List.{length-set, get_or_append_left}
 use Rattle.std.proofs.lemmas.Bool.Decides.{eqb_tells}
 use Rattle.lock_model.specs.declared.group.Group.{Group}
 use Rattle.lock_model.specs.declared.way.Way.{Way}
 use Rattle.lock_model.specs.declared.way.Way.TheVariants.{Up, Down}
-use Rattle.price_groups.specs.Asks.{LineAsk}
 use Rattle.sweep_rules.specs.Label.{Label, CanGoOn}
 use Rattle.sweep_rules.specs.Treated.{IsTreated, label_at}
 use Rattle.sweep_labels.specs.declared.label.Label.{Label as CodeLabel}
@@ -34,14 +33,18 @@ grown_more a b c f g h first second = record {
 }
 
 module _ (case : SweepCase) where
-  -- the sweep as it is, and with other things changed than its lanes and labels
-  pub further_same : (s t : Sweeper) → IsSound case s → t.lanes.items ≡ s.lanes.items → t.made ≡ s.made → IsFurther case s t
+  -- the sweep with other things changed than its lanes and labels is as sound, and as far on
+  pub sound_same : (s t : Sweeper) → IsSound case s → AreLanes case t.lanes.items → t.made ≡ s.made → IsSound case t
+  sound_same s t sound lanes made = record {
+    arrive = sound.arrive;
+    lanes = lanes;
+    level = subst (λ (made : Made). length made.labels.are_open.items ≡ length made.labels.items.items) (sym made) sound.level;
+    treated = subst (λ (made : Made). AreTreated case.instance.now (cuts_of case) made.goal made.labels.items.items made.labels.are_open.items) (sym made) sound.treated;
+  }
+
+  pub further_same : (s t : Sweeper) → IsSound case s → AreLanes case t.lanes.items → t.made ≡ s.made → IsFurther case s t
   further_same s t sound lanes made = record {
-    sound = record {
-      lanes = subst (AreLanes case) (sym lanes) sound.lanes;
-      level = subst (λ (made : Made). length made.labels.are_open.items ≡ length made.labels.items.items) (sym made) sound.level;
-      treated = subst (λ (made : Made). AreTreated case.instance.now (cuts_of case) made.goal made.labels.items.items made.labels.are_open.items) (sym made) sound.treated;
-    };
+    sound = sound_same s t sound lanes made;
     grown = subst (IsGrown s.made) (sym made) (grown_none s.made.labels.items.items s.made.goal);
   }
 
@@ -64,7 +67,7 @@ module _ (case : SweepCase) where
   way_led_on a b from c way grown led = record { each = λ g can same. led_on a b from c g grown (led.each g can same) }
 
   -- one arc more, and one chamber more
-  before : (k n : ℕ) → k < n + 1 → (k ≡ n → ⊥) → k < n
+  before : (k n : ℕ) → k < n + 1 → k ≢ n → k < n
   before k n less other = omega arith
 
   pub arcs_led_none : (a : Made) (from : CodeLabel) (c : ℕ) (way : Way) (arcs : List Arc) → AreArcsLed case a from c way 0 arcs
@@ -95,11 +98,12 @@ module _ (case : SweepCase) where
   }
 
   -- a label is kept
-  pub kept_further : (s t : Sweeper) (l : KeptLabel) → IsSound case s → t.lanes.items ≡ s.lanes.items
+  pub kept_further : (s t : Sweeper) (l : KeptLabel) → IsSound case s → AreLanes case t.lanes.items
       → IsKept l s.made.labels.items.items s.made.labels.are_open.items s.made.goal t.made.labels.items.items t.made.labels.are_open.items t.made.goal → IsFurther case s t
   kept_further s t l sound lanes kept = record {
     sound = record {
-      lanes = subst (AreLanes case) (sym lanes) sound.lanes;
+      arrive = sound.arrive;
+      lanes = lanes;
       level = kept.level;
       treated = kept.treated case.instance.now (cuts_of case) sound.treated;
     };
@@ -107,12 +111,13 @@ module _ (case : SweepCase) where
   }
 
   -- a treated label is closed
-  pub closed_further : (s t : Sweeper) (n : ℕ) → IsSound case s → t.lanes.items ≡ s.lanes.items → t.made.goal ≡ s.made.goal → t.made.labels.items.items ≡ s.made.labels.items.items
+  pub closed_further : (s t : Sweeper) (n : ℕ) → IsSound case s → AreLanes case t.lanes.items → t.made.goal ≡ s.made.goal → t.made.labels.items.items ≡ s.made.labels.items.items
       → t.made.labels.are_open.items ≡ slice_set s.made.labels.are_open.items n false
       → IsTreated case.instance.now (cuts_of case) s.made.goal (labels_of s.made.labels.items.items) n → IsFurther case s t
   closed_further s t n sound lanes goal items flags treated = record {
     sound = record {
-      lanes = subst (AreLanes case) (sym lanes) sound.lanes;
+      arrive = sound.arrive;
+      lanes = lanes;
       level = ap length flags ∙ length-set s.made.labels.are_open.items n false ∙ sound.level ∙ ap length (sym items);
       treated =
           subst (λ goal. AreTreated case.instance.now (cuts_of case) goal t.made.labels.items.items t.made.labels.are_open.items) (sym goal)

@@ -10,13 +10,15 @@ use Rattle.sweep_labels.specs.declared.step.Arc.{Arc}
 use Rattle.sweep_labels.specs.Labels.{ready_by, times_at, label_of}
 use Rattle.sweep_labels.specs.Sweeping.{labels_of, AreTreated}
 use Rattle.sweep_labels.specs.Made.{HasGrown}
+use Rattle.sweep_labels.specs.Coming.{AllArrive}
 use Rattle.sweep_labels.specs.Arcs.{IsArcBy, arc_at}
 use Rattle.sweep.specs.declared.sweep_case.SweepCase.{SweepCase}
 use Rattle.sweep.specs.declared.sweeper.Sweeper.{Sweeper}
 use Rattle.sweep.specs.Bounds.{cuts_of, AreLanes}
 
--- the lanes are the chambers of the case, and each label is open or treated
+-- The lanes are the chambers of the case, the ships that these wait for are listed, and each label is open or treated.
 pub record IsSound (case : SweepCase) (s : Sweeper) : Type 0 where
+  pub arrive : AllArrive case.instance.now (cuts_of case) case.arrivals.items
   pub lanes : AreLanes case s.lanes.items
   pub level : length s.made.labels.are_open.items ≡ length s.made.labels.items.items
   pub treated : AreTreated case.instance.now (cuts_of case) s.made.goal s.made.labels.items.items s.made.labels.are_open.items

@@ -1,12 +1,11 @@
 //! Labels that go on, and what prices bound behind labels.
-ghost use Rattle.std.specs.Prelude.{ℕ, ◌≡◌, ◌+◌, ◌*◌, ◌<◌, length, sum_by, slice_index_or, IsTrue, IfOk};
+ghost use Rattle.std.specs.Prelude.{ℕ, ◌≡◌, ◌+◌, ◌*◌, ◌<◌, length, sum_by, IsTrue, IfOk, OnOk};
 ghost use Rattle.lock_rules.specs.Arrival.{numbers_from};
-ghost use Rattle.price_groups.specs.Asks.{LineAsk};
 ghost use Rattle.sweep_rules.specs.Gain.{prices_missing};
 ghost use Rattle.sweep_labels.specs.Ships.{is_in};
 ghost use Rattle.sweep_labels.specs.Labels.{label_of};
 ghost use Rattle.sweep_labels.specs.Arcs.{IsGainBehind};
-ghost use Rattle.sweep.specs.Bounds.{gain_in, AreLanes, AreGains, IsBoundAbove, IsRoom};
+ghost use Rattle.sweep.specs.Bounds.{cuts_of, gain_in, AreLanes, AreGains, IsBoundAbove, IsRoom};
 
 use crate::sums::{added, difference, hundredths};
 use crate::sweep_case::SweepCase;
@@ -25,16 +24,24 @@ pub(crate) struct Origin {
     pub(crate) gains: [u64; CHAMBERS],
 }
 
+#[tactic(auto, using(crate::proofs::BoundLemmas::lanes_set, crate::proofs::BoundLemmas::lane_gain))]
 // The gain of a chamber behind a label that has these minutes of it.
-fn gain_by(lanes: &mut Vec<Lane>, chamber: usize, times: &ReadyTimes) -> Result<u64, PriceError>
-    requires { chamber < length lanes.old.items }
-    ensures same { lanes.new.items ≡ lanes.old.items }
-    ensures gain { IfOk result (λ gain. (d : LineAsk) → let lane = slice_index_or lanes.old.items chamber d in IsGainBehind lane.instance lane.cuts lane.prices lane.chamber times.now gain) }
+fn gain_by(
+    case: &SweepCase,
+    lanes: &mut Vec<Lane>,
+    chamber: usize,
+    times: &ReadyTimes,
+) -> Result<u64, PriceError>
+    requires lanes { AreLanes case.now lanes.old.items }
+    requires chamber { chamber < length case.now.instance.now.chambers }
+    ensures lanes { OnOk result (AreLanes case.now lanes.new.items) }
+    ensures gain { IfOk result (IsGainBehind case.now.instance.now (cuts_of case.now) case.now.prices.now chamber times.now) }
 {
     let lane = &mut lanes[chamber];
     lane.gain(times)
 }
 
+#[tactic(auto, using(crate::proofs::BoundLemmas::gains_none, crate::proofs::BoundLemmas::gains_more))]
 /// The gains of all chambers behind a label.
 pub(crate) fn gains_of(
     case: &SweepCase,
@@ -42,16 +49,17 @@ pub(crate) fn gains_of(
     label: &Label,
 ) -> Result<[u64; CHAMBERS], PriceError>
     requires { AreLanes case.now lanes.old.items }
-    ensures same { lanes.new.items ≡ lanes.old.items }
+    ensures lanes { OnOk result (AreLanes case.now lanes.new.items) }
     ensures gains { IfOk result (AreGains case.now (label_of label.now)) }
 {
     let mut gains = [0; CHAMBERS];
     for chamber in 0..case.instance.chambers.as_slice().len() {
-        gains[chamber] = gain_by(lanes, chamber, &label.ready[chamber])?;
+        gains[chamber] = gain_by(case, lanes, chamber, &label.ready[chamber])?;
     }
     Ok(gains)
 }
 
+#[tactic(auto, using(crate::proofs::BoundLemmas::sum_more))]
 // The gains of all chambers, added.
 fn sum_of(case: &SweepCase, gains: &[u64; CHAMBERS]) -> Result<u64, PriceError>
     ensures { IfOk result (λ sum. sum ≡ sum_by (gain_in gains.now) (numbers_from 0 (length case.now.instance.now.chambers))) }
@@ -63,6 +71,7 @@ fn sum_of(case: &SweepCase, gains: &[u64; CHAMBERS]) -> Result<u64, PriceError>
     Ok(sum)
 }
 
+#[tactic(auto, using(crate::proofs::BoundLemmas::filter_in, crate::proofs::BoundLemmas::filter_out))]
 /// The prices of the ships that aren't served, added.
 pub(crate) fn missing_prices(case: &SweepCase, served: &ShipSet) -> Result<u64, PriceError>
     ensures { IfOk result (λ sum. sum ≡ prices_missing case.now.instance.now case.now.prices.now (is_in served.now.bits)) }
@@ -99,6 +108,7 @@ pub(crate) fn is_above(
     Ok(low < high)
 }
 
+#[tactic(auto, using(crate::proofs::BoundLemmas::room_wide))]
 /// What a group of a chamber may be worth at most by which a label goes on.
 pub(crate) fn room_of(
     case: &SweepCase,

@@ -1,8 +1,6 @@
 //! What stays the same during a sweep.
 ghost use Rattle.std.specs.Prelude.{◌≡◌, ◌<◌, false, length, IfSome};
-ghost use Rattle.price_terms.specs.Cuts.{plain_cuts};
 ghost use Rattle.sweep_labels.specs.Ships.{is_in};
-ghost use Rattle.sweep_labels.specs.Coming.{AllArrive};
 
 use lock_model::Instance;
 use price_terms::{ChamberCut, Prices};
@@ -17,7 +15,6 @@ pub(crate) struct SweepCase<'a> {
     pub(crate) arrivals: Vec<Arrivals>,
     pub(crate) most: usize,
     pub(crate) ghost level: { length arrivals.items ≡ length instance.now.chambers },
-    pub(crate) ghost arrive: { AllArrive instance.now (plain_cuts instance.now cuts.now) arrivals.items },
 }
 
 impl SweepCase<'_> {

@@ -1,14 +1,12 @@
 //! A sweep in work.
 ghost use Rattle.std.specs.Prelude.{ℕ, ◌≡◌, ◌+◌, ◌<◌, ◌≤◌, false, length, slice_index_or, IfOk, OnOk};
-ghost use Rattle.price_groups.specs.Asks.{LineAsk};
 ghost use Rattle.sweep_rules.specs.Treated.{IsTreated};
 ghost use Rattle.sweep_labels.specs.Ships.{is_in};
 ghost use Rattle.sweep_labels.specs.Putting.{open_at};
 ghost use Rattle.sweep_labels.specs.Sweeping.{labels_of};
 ghost use Rattle.sweep_labels.specs.Labels.{label_of};
-ghost use Rattle.sweep_labels.specs.Arcs.{AreArcs};
 ghost use Rattle.sweep_labels.specs.declared.label.KeptLabel.{KeptLabel as AnyLabel};
-ghost use Rattle.sweep.specs.Bounds.{cuts_of, IsOrigin};
+ghost use Rattle.sweep.specs.Bounds.{cuts_of, AreLanes, AreArcsAsked, IsOrigin};
 ghost use Rattle.sweep.specs.Going.{IsSound, IsFurther, IsMetBy, IsBegun, IsArcLed, AreArcsLed, IsWayLed, AreLed};
 
 use crate::origin::{Origin, gains_of, is_above, missing_prices, room_of, spread_of};
@@ -30,17 +28,33 @@ pub(crate) struct Sweeper<'a> {
     pub(crate) spread: i64,
 }
 
+#[tactic(auto, using(crate::proofs::BoundLemmas::lanes_set, crate::proofs::BoundLemmas::lane_arcs))]
 // The arcs of a chamber that are asked for.
-fn arcs_of(lanes: &mut Vec<Lane>, chamber: usize, asked: &ArcsAsked) -> Result<Vec<Arc>, PriceError>
-    requires { chamber < length lanes.old.items }
-    ensures same { lanes.new.items ≡ lanes.old.items }
-    ensures arcs { IfOk result (λ arcs. (d : LineAsk) → let lane = slice_index_or lanes.old.items chamber d in AreArcs lane.instance lane.cuts lane.prices lane.chamber asked.now.way asked.now.minute asked.now.served.bits asked.now.room arcs.items) }
+fn arcs_of(
+    case: &SweepCase,
+    lanes: &mut Vec<Lane>,
+    chamber: usize,
+    asked: &ArcsAsked,
+) -> Result<Vec<Arc>, PriceError>
+    requires lanes { AreLanes case.now lanes.old.items }
+    requires chamber { chamber < length case.now.instance.now.chambers }
+    ensures lanes { OnOk result (AreLanes case.now lanes.new.items) }
+    ensures arcs { IfOk result (λ arcs. AreArcsAsked case.now chamber asked.now arcs.items) }
 {
     let lane = &mut lanes[chamber];
     lane.arcs(asked)
 }
 
+// Puts a label that is open to the queue.
+fn put_to(queue: &mut Queue, number: Option<u32>, kept: &KeptLabel) -> Result<(), PriceError> {
+    match number {
+        None => Ok(()),
+        Some(number) => queue.put(number, kept.start, kept.chamber),
+    }
+}
+
 impl Sweeper<'_> {
+    #[tactic(auto, using(crate::proofs::GrownLemmas::kept_further))]
     // Keeps a label.
     fn keep(&mut self, case: &SweepCase, kept: KeptLabel) -> Result<(), PriceError>
         requires { IsSound case.now self.old }
@@ -51,12 +65,11 @@ impl Sweeper<'_> {
             return Err(PriceError::TooMany);
         }
         let whole = case.first_missing(&kept.label.served).is_none();
-        match self.made.keep(kept, whole)? {
-            None => Ok(()),
-            Some(number) => self.queue.put(number, kept.start, kept.chamber),
-        }
+        let number = self.made.keep(kept, whole)?;
+        put_to(&mut self.queue, number, &kept)
     }
 
+    #[tactic(auto, using(crate::proofs::GrownLemmas::sound_same, crate::proofs::GrownLemmas::further_same, crate::proofs::GrownLemmas::further_more, crate::proofs::GoingLemmas::arc_dropped, crate::proofs::GoingLemmas::arc_kept))]
     // Goes on by a step.
     fn go_on(&mut self, case: &SweepCase, from: &Origin, step: &Step) -> Result<(), PriceError>
         requires sound { IsSound case.now self.old }
@@ -80,6 +93,7 @@ impl Sweeper<'_> {
         self.keep(case, kept)
     }
 
+    #[tactic(auto, using(crate::proofs::GrownLemmas::further_same, crate::proofs::GrownLemmas::further_more, crate::proofs::GrownLemmas::arcs_led_none, crate::proofs::GrownLemmas::arcs_led_more))]
     // Goes on by arcs of a chamber and a way.
     fn go_by_arcs(
         &mut self,
@@ -102,6 +116,7 @@ impl Sweeper<'_> {
         Ok(())
     }
 
+    #[tactic(auto, using(crate::proofs::GrownLemmas::sound_same, crate::proofs::GrownLemmas::further_same, crate::proofs::GrownLemmas::further_more, crate::proofs::GoingLemmas::way_led))]
     // Goes on by a chamber and a way.
     fn go_by(
         &mut self,
@@ -124,10 +139,11 @@ impl Sweeper<'_> {
             room: room_of(case, from, place, self.made.goal)?,
             spread: self.spread,
         };
-        let arcs = arcs_of(&mut self.lanes, place, &asked)?;
+        let arcs = arcs_of(case, &mut self.lanes, place, &asked)?;
         self.go_by_arcs(case, from, chamber, way, &arcs)
     }
 
+    #[tactic(auto, using(crate::proofs::GrownLemmas::further_more, crate::proofs::GrownLemmas::way_led_on))]
     // Goes on by a chamber.
     fn go_by_both(&mut self, case: &SweepCase, from: &Origin, chamber: u8) -> Result<(), PriceError>
         requires sound { IsSound case.now self.old }
@@ -141,6 +157,7 @@ impl Sweeper<'_> {
         self.go_by(case, from, chamber, Way::Down)
     }
 
+    #[tactic(auto, using(crate::proofs::GrownLemmas::further_same, crate::proofs::GrownLemmas::further_more, crate::proofs::GrownLemmas::led_none, crate::proofs::GrownLemmas::led_more))]
     // Goes on by all chambers.
     fn go_by_all(&mut self, case: &SweepCase, from: &Origin) -> Result<(), PriceError>
         requires sound { IsSound case.now self.old }
@@ -154,6 +171,7 @@ impl Sweeper<'_> {
         Ok(())
     }
 
+    #[tactic(auto, using(crate::proofs::GrownLemmas::closed_further))]
     // Closes a treated label.
     fn close(&mut self, case: &SweepCase, number: u32)
         requires sound { IsSound case.now self.old }
@@ -163,6 +181,7 @@ impl Sweeper<'_> {
         self.made.labels.close(number as usize);
     }
 
+    #[tactic(auto, using(crate::proofs::GrownLemmas::further_more, crate::proofs::GoingLemmas::at_number, crate::proofs::GoingLemmas::at_number_on, crate::proofs::GoingLemmas::bound_treated, crate::proofs::GoingLemmas::led_treated))]
     // Goes on from the label of a number that misses a ship, unless its bound is above the goal, and closes it.
     fn treat(&mut self, case: &SweepCase, from: &Origin, missed: u8) -> Result<(), PriceError>
         requires sound { IsSound case.now self.old }
@@ -182,6 +201,7 @@ impl Sweeper<'_> {
         Ok(())
     }
 
+    #[tactic(auto, using(crate::proofs::GrownLemmas::sound_same, crate::proofs::GrownLemmas::further_same, crate::proofs::GrownLemmas::further_more))]
     // Goes on from the label of a number, and closes it.
     fn expand(&mut self, case: &SweepCase, number: u32, label: Label) -> Result<(), PriceError>
         requires sound { IsSound case.now self.old }
@@ -203,6 +223,7 @@ impl Sweeper<'_> {
         self.treat(case, &from, missed)
     }
 
+    #[tactic(auto, using(crate::proofs::GrownLemmas::further_same))]
     // Goes on from the label of a number, where it is open.
     fn settle(&mut self, case: &SweepCase, number: u32) -> Result<(), PriceError>
         requires { IsSound case.now self.old }
@@ -214,6 +235,7 @@ impl Sweeper<'_> {
         }
     }
 
+    #[tactic(auto, using(crate::proofs::GrownLemmas::sound_same, crate::proofs::GrownLemmas::further_same, crate::proofs::GrownLemmas::further_more))]
     // Goes on from labels until the queue has none.
     fn settle_all(&mut self, case: &SweepCase) -> Result<(), PriceError>
         requires { IsSound case.now self.old }
@@ -242,6 +264,7 @@ impl Sweeper<'_> {
         }
     }
 
+    #[tactic(auto, using(crate::proofs::GrownLemmas::sound_same, crate::proofs::GrownLemmas::further_same, crate::proofs::GrownLemmas::further_more))]
     /// Begins with the label that serves nobody.
     pub(crate) fn begin(&mut self, case: &SweepCase) -> Result<(), PriceError>
         requires { IsSound case.now self.old }

@@ -1,33 +1,20 @@
 //! One chamber of a sweep: what it may come to from any minute on, and its arcs.
-ghost use Rattle.std.specs.Prelude.{◌≡◌, [], IfOk};
+ghost use Rattle.std.specs.Prelude.{◌≡◌, [], IfOk, OnOk};
 ghost use Rattle.price_groups.specs.Asked.{line_asked};
-ghost use Rattle.sweep_labels.specs.Arcs.{IsGainBehind, AreArcs};
 ghost use Rattle.sweep_labels.specs.Coming.{ArriveIn};
+ghost use Rattle.sweep_arcs.specs.Lanes.{ask_of, IsLane, IsSameLane, HasGain, HasArcs};
 
 use crate::asked::{ArcLimits, ArcsAsked};
 use price_groups::LineCase;
 use price_terms::PriceError;
 use std::alloc::Global;
-use std::marker::Model;
 use sweep_labels::{Arc, Arrivals, ReadyTimes};
 
-/// A chamber without a line, both of its ways, and its values.
+/// A chamber without a line.
 #[derive(Drop)]
 pub struct Lane<'a> {
     case: &'a LineCase<'a>,
     most: usize,
-}
-
-impl<'a> Model for Lane<'a> {
-    ghost use Rattle.std.specs.Prelude.{⊤};
-    ghost use Rattle.price_groups.specs.Asked.{line_asked};
-    ghost use Rattle.price_groups.specs.Asks.{LineAsk};
-
-    ghost Value = { LineAsk };
-
-    ghost view = { λ a. line_asked a.case.now };
-
-    ghost invariant = { λ a. ⊤ };
 }
 
 impl<'a> Lane<'a> {
@@ -39,7 +26,8 @@ impl<'a> Lane<'a> {
     ) -> Result<Lane<'a>, PriceError>
         requires root { case.now.depth ≡ 0 }
         requires empty { case.now.line.now ≡ [] }
-        ensures { IfOk result (λ lane. lane ≡ line_asked case.now) }
+        ensures is { IfOk result IsLane }
+        ensures asked { IfOk result (λ lane. ask_of lane ≡ line_asked case.now) }
     {
         Ok(Lane {
             case,
@@ -51,8 +39,9 @@ impl<'a> Lane<'a> {
     /// pays more than that beyond 100 times its flow time. Refused are want of memory and more turns than
     /// the limits allow.
     pub fn gain(&mut self, times: &ReadyTimes) -> Result<u64, PriceError>
-        ensures same { self.new ≡ self.old }
-        ensures gain { IfOk result (IsGainBehind self.old.instance self.old.cuts self.old.prices self.old.chamber times.now) }
+        requires { IsLane self.old }
+        ensures same { OnOk result (IsSameLane self.old self.new) }
+        ensures gain { IfOk result (HasGain (ask_of self.old) times.now) }
     {
         Err(PriceError::TooMany)
     }
@@ -61,15 +50,17 @@ impl<'a> Lane<'a> {
     /// it is worth more than the room. Refused are want of memory, more groups or turns than the limits
     /// allow, and a room past which arcs aren't listed.
     pub fn arcs(&mut self, asked: &ArcsAsked) -> Result<Vec<Arc>, PriceError>
-        ensures same { self.new ≡ self.old }
-        ensures arcs { IfOk result (λ arcs. AreArcs self.old.instance self.old.cuts self.old.prices self.old.chamber asked.now.way asked.now.minute asked.now.served.bits asked.now.room arcs.items) }
+        requires { IsLane self.old }
+        ensures same { OnOk result (IsSameLane self.old self.new) }
+        ensures arcs { IfOk result (λ arcs. HasArcs (ask_of self.old) asked.now arcs.items) }
     {
         Err(PriceError::TooMany)
     }
 
     /// The ships that the chamber waits for, by rising arrival.
     pub fn arrivals(&self, alloc: Global) -> Result<Arrivals, PriceError>
-        ensures { IfOk result (ArriveIn self.now.instance self.now.cuts self.now.chamber) }
+        requires { IsLane self.now }
+        ensures { IfOk result (ArriveIn (ask_of self.now).instance (ask_of self.now).cuts (ask_of self.now).chamber) }
     {
         Err(PriceError::TooMany)
     }
