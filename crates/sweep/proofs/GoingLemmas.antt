@@ -37,8 +37,8 @@ module _ (case : SweepCase) where
   pub step_by : (from : CodeLabel) (step : Step) (g : Group) → IsArcOn case from step.chamber step.way step.arc g → IsStepBy case.instance.now (label_of from) g step
   step_by from step g on =
       let own : IsArcBy case.instance.now case.prices.now step.chamber (ready_by (times_at from.ready step.chamber) g.way) g step.arc =
-      subst (λ way. IsArcBy case.instance.now case.prices.now step.chamber (ready_by (times_at from.ready step.chamber) way) g step.arc) (sym on.way) on.is in
-      record { way = sym on.way; ships = own.ships; start = own.start; end = own.end; flow = own.flow }
+      subst (λ way. IsArcBy case.instance.now case.prices.now step.chamber (ready_by (times_at from.ready step.chamber) way) g step.arc) (sym on.same) on.is in
+      record { way = sym on.same; ships = own.ships; start = own.start; end = own.end; flow = own.flow }
 
   -- no label has a completion below the goal whose bound is above it
   pub bound_none : (label : CodeLabel) (missing : ℕ) (gains : List ℕ) (goal : ℕ) → missing ≡ prices_missing case.instance.now case.prices.now (label_of label).served → AreGains case (label_of label) gains
@@ -75,7 +75,7 @@ module _ (case : SweepCase) where
       → AreArcsLed case new from.label c way (length arcs) arcs → IsWayLed case new (label_of from.label) c way
   way_led old new from c way room arcs grown origin is are led = record {
     each = λ g can same. elim (are.whole g can.uncut same can.missing) [
-      | inl has ↦ (led.each has.place has.within).each g (record { can = can; way = same; is = has.is })
+      | inl has ↦ (led.each has.place has.within).each g (record { can = can; same = same; is = has.is })
       | inr beyond ↦ led_on case old new (label_of from.label) c g grown (far g can same beyond)
     ];
   }

@@ -51,7 +51,7 @@ pub record IsLedOn (case : SweepCase) (made : Made) (from : Label) (c : ℕ) (g 
 -- the label may go on by the group, and the arc is that group behind it
 pub record IsArcOn (case : SweepCase) (from : CodeLabel) (c : ℕ) (way : Way) (arc : Arc) (g : Group) : Type 0 where
   pub can : CanGoOn case.instance.now (cuts_of case) (label_of from) c g
-  pub way : g.way ≡ way
+  pub same : g.way ≡ way
   pub is : IsArcBy case.instance.now case.prices.now c (ready_by (times_at from.ready c) way) g arc
 
 -- the same by each group that the arc may be

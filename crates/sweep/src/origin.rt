@@ -76,8 +76,9 @@ fn sum_of(case: &SweepCase, gains: &[u64; CHAMBERS]) -> Result<u64, PriceError>
 pub(crate) fn missing_prices(case: &SweepCase, served: &ShipSet) -> Result<u64, PriceError>
     ensures { IfOk result (λ sum. sum ≡ prices_missing case.now.instance.now case.now.prices.now (is_in served.now.bits)) }
 {
+    let count = case.instance.ships.as_slice().len() as u8;
     let mut sum = 0;
-    for ship in 0..case.instance.ships.as_slice().len() as u8 {
+    for ship in 0..count {
         if !served.has(ship) {
             sum = added(sum, case.prices.at(ship) as u64)?;
         }

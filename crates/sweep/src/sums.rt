@@ -33,7 +33,6 @@ pub(crate) fn less(sum: u64, part: u64) -> Result<u64, PriceError>
     }
 }
 
-#[tactic(auto, using(crate::proofs::GrownLemmas::grown_none, crate::proofs::BoundLemmas::sum_more, crate::proofs::GoingLemmas::step_by, crate::proofs::EndLemmas::count_more))]
 // A number with a sign.
 fn signed(number: u64) -> Result<i64, PriceError>
     ensures { IfOk result (λ own. own ≡ pos number) }

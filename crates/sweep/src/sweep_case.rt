@@ -22,7 +22,8 @@ impl SweepCase<'_> {
     pub(crate) fn first_missing(&self, served: &ShipSet) -> Option<u8>
         ensures { IfSome result (λ s. (s < length self.now.instance.now.ships) × (is_in served.now.bits s ≡ false)) }
     {
-        for ship in 0..self.instance.ships.as_slice().len() as u8 {
+        let count = self.instance.ships.as_slice().len() as u8;
+        for ship in 0..count {
             if !served.has(ship) {
                 return Some(ship);
             }

@@ -81,7 +81,8 @@ impl Sweeper<'_> {
         let label = gone_on(case.instance, &case.arrivals, &from.label, step)?;
         let gains = gains_of(case, &mut self.lanes, &label)?;
         let missing = less(from.missing, step.arc.prices)?;
-        if is_above(case, &label, missing, &gains, self.made.goal)? {
+        let above = is_above(case, &label, missing, &gains, self.made.goal)?;
+        if above {
             return Ok(());
         }
         let kept = KeptLabel {
@@ -90,7 +91,8 @@ impl Sweeper<'_> {
             chamber: step.chamber,
             start: step.arc.start,
         };
-        self.keep(case, kept)
+        self.keep(case, kept)?;
+        Ok(())
     }
 
     #[tactic(auto, using(crate::proofs::GrownLemmas::further_same, crate::proofs::GrownLemmas::further_more, crate::proofs::GrownLemmas::arcs_led_none, crate::proofs::GrownLemmas::arcs_led_more))]
@@ -132,15 +134,18 @@ impl Sweeper<'_> {
         ensures led { OnOk result (IsWayLed case.now self.new.made (label_of from.now.label) chamber way) }
     {
         let place = chamber as usize;
+        let minute = from.label.ready[place].by(way);
+        let room = room_of(case, from, place, self.made.goal)?;
         let asked = ArcsAsked {
             way,
-            minute: from.label.ready[place].by(way),
+            minute,
             served: from.label.served,
-            room: room_of(case, from, place, self.made.goal)?,
+            room,
             spread: self.spread,
         };
         let arcs = arcs_of(case, &mut self.lanes, place, &asked)?;
-        self.go_by_arcs(case, from, chamber, way, &arcs)
+        self.go_by_arcs(case, from, chamber, way, &arcs)?;
+        Ok(())
     }
 
     #[tactic(auto, using(crate::proofs::GrownLemmas::further_more, crate::proofs::GrownLemmas::way_led_on))]
@@ -154,7 +159,8 @@ impl Sweeper<'_> {
         ensures down { OnOk result (IsWayLed case.now self.new.made (label_of from.now.label) chamber Way.Down) }
     {
         self.go_by(case, from, chamber, Way::Up)?;
-        self.go_by(case, from, chamber, Way::Down)
+        self.go_by(case, from, chamber, Way::Down)?;
+        Ok(())
     }
 
     #[tactic(auto, using(crate::proofs::GrownLemmas::further_same, crate::proofs::GrownLemmas::further_more, crate::proofs::GrownLemmas::led_none, crate::proofs::GrownLemmas::led_more))]
@@ -165,7 +171,8 @@ impl Sweeper<'_> {
         ensures further { OnOk result (IsFurther case.now self.old self.new) }
         ensures led { OnOk result (AreLed case.now self.new.made (label_of from.now.label) (length case.now.instance.now.chambers)) }
     {
-        for chamber in 0..case.instance.chambers.as_slice().len() as u8 {
+        let count = case.instance.chambers.as_slice().len() as u8;
+        for chamber in 0..count {
             self.go_by_both(case, from, chamber)?;
         }
         Ok(())
@@ -192,7 +199,8 @@ impl Sweeper<'_> {
         requires missing { is_in from.now.label.served.bits missed ≡ false }
         ensures { OnOk result (IsFurther case.now self.old self.new) }
     {
-        if is_above(case, &from.label, from.missing, &from.gains, self.made.goal)? {
+        let above = is_above(case, &from.label, from.missing, &from.gains, self.made.goal)?;
+        if above {
             self.close(case, from.number);
             return Ok(());
         }
@@ -220,7 +228,8 @@ impl Sweeper<'_> {
             missing,
             gains,
         };
-        self.treat(case, &from, missed)
+        self.treat(case, &from, missed)?;
+        Ok(())
     }
 
     #[tactic(auto, using(crate::proofs::GrownLemmas::further_same))]
@@ -281,6 +290,7 @@ impl Sweeper<'_> {
             chamber: 0,
             start: 0,
         };
-        self.keep(case, kept)
+        self.keep(case, kept)?;
+        Ok(())
     }
 }

@@ -1,7 +1,8 @@
 //! The sweep.
 ghost use Rattle.std.specs.Prelude.{◌≡◌, ◌≤◌, ◌<◌, [], length, IfOk};
 ghost use Rattle.price_terms.specs.Cuts.{plain_cuts};
-ghost use Rattle.sweep.specs.Bounds.{AreLanesOf, AreLanes};
+ghost use Rattle.sweep_labels.specs.Coming.{AllArrive};
+ghost use Rattle.sweep.specs.Bounds.{cuts_of, AreLanesOf, AreLanes};
 ghost use Rattle.sweep.specs.Ends.{IsCase, AreCases, ArriveInFirst, IsSweptBy, IsSweepEnd};
 
 use crate::asked::{SweepAsked, SweepLimits};
@@ -51,8 +52,9 @@ fn case_of<'a>(asked: &SweepAsked<'a>, index: u8) -> LineCase<'a>
 fn cases_of<'a>(alloc: Global, asked: &SweepAsked<'a>) -> Result<Vec<LineCase<'a>>, PriceError>
     ensures { IfOk result (λ cases. AreCases asked.now (length asked.now.instance.now.chambers) cases.items) }
 {
+    let count = asked.instance.chambers.as_slice().len() as u8;
     let mut cases = Vec::new(alloc);
-    for index in 0..asked.instance.chambers.as_slice().len() as u8 {
+    for index in 0..count {
         append(&mut cases, case_of(asked, index))?;
     }
     Ok(cases)
@@ -74,7 +76,8 @@ fn lanes_of<'a>(
     };
     let mut lanes = Vec::new(alloc);
     for place in 0..cases.len() {
-        append(&mut lanes, Lane::new(alloc, &cases[place], own)?)?;
+        let lane = Lane::new(alloc, &cases[place], own)?;
+        append(&mut lanes, lane)?;
     }
     Ok(lanes)
 }
@@ -90,7 +93,8 @@ fn arrivals_of(
 {
     let mut all = Vec::new(alloc);
     for place in 0..lanes.len() {
-        append(&mut all, lanes[place].arrivals(alloc)?)?;
+        let arrivals = lanes[place].arrivals(alloc)?;
+        append(&mut all, arrivals)?;
     }
     Ok(all)
 }
@@ -121,6 +125,7 @@ fn swept(
     case: &SweepCase,
     lanes: Vec<Lane>,
 ) -> Result<SweepOutcome, PriceError>
+    requires arrive { AllArrive case.now.instance.now (cuts_of case.now) case.now.arrivals.items }
     requires instance { case.now.instance.now ≡ asked.now.instance.now }
     requires cuts { case.now.cuts.now ≡ asked.now.cuts.now }
     requires lanes { AreLanes case.now lanes.items }
