@@ -38,7 +38,8 @@ fn gain_by(
     ensures gain { IfOk result (IsGainBehind case.now.instance.now (cuts_of case.now) case.now.prices.now chamber times.now) }
 {
     let lane = &mut lanes[chamber];
-    lane.gain(times)
+    let gain = lane.gain(times)?;
+    Ok(gain)
 }
 
 #[tactic(auto, using(crate::proofs::BoundLemmas::gains_none, crate::proofs::BoundLemmas::gains_more))]
@@ -123,7 +124,8 @@ pub(crate) fn room_of(
     let beside = sum_of(case, &from.gains)?.saturating_sub(from.gains[chamber]);
     let low = added(hundredths(goal)?, beside)?;
     let high = cost_by(&from.label, from.missing)?;
-    difference(low, high)
+    let room = difference(low, high)?;
+    Ok(room)
 }
 
 /// By how much a label's bound is below the goal: so far arcs are listed.

@@ -42,7 +42,8 @@ fn arcs_of(
     ensures arcs { IfOk result (λ arcs. AreArcsAsked case.now chamber asked.now arcs.items) }
 {
     let lane = &mut lanes[chamber];
-    lane.arcs(asked)
+    let arcs = lane.arcs(asked)?;
+    Ok(arcs)
 }
 
 // Puts a label that is open to the queue.
@@ -66,7 +67,8 @@ impl Sweeper<'_> {
         }
         let whole = case.first_missing(&kept.label.served).is_none();
         let number = self.made.keep(kept, whole)?;
-        put_to(&mut self.queue, number, &kept)
+        put_to(&mut self.queue, number, &kept)?;
+        Ok(())
     }
 
     #[tactic(auto, using(crate::proofs::GrownLemmas::sound_same, crate::proofs::GrownLemmas::further_same, crate::proofs::GrownLemmas::further_more, crate::proofs::GoingLemmas::arc_dropped, crate::proofs::GoingLemmas::arc_kept))]
