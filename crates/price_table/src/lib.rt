@@ -9,6 +9,7 @@
 #![tactic(auto)]
 
 mod counting;
+mod end_values;
 mod frame;
 mod horizon;
 mod least;
@@ -23,4 +24,5 @@ mod table;
 mod values;
 mod walking;
 
+pub use end_values::EndValues;
 pub use line_least::least_line;

@@ -45,7 +45,7 @@ fn line_by(alloc: Global, table: &Table) -> Result<LooseLine, PriceError>
 }
 
 // What may come next at each place of the line.
-fn successor_lists_for(
+pub(crate) fn successor_lists_for(
     alloc: Global,
     extension: &Extension,
     lists: &mut Vec<GrownList>,

@@ -1,0 +1,4 @@
+pub mod GrownLemmas
+pub mod BoundLemmas
+pub mod GoingLemmas
+pub mod EndLemmas

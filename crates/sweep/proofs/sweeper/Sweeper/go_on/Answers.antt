@@ -1,0 +1,32 @@
+use Rattle.std.proofs.Common.{◌≡◌, true, IsTrue, refl, sym, subst, rules}
+use Rattle.sweep_labels.specs.Coming.{AllArrive}
+use Rattle.sweep.specs.Bounds.{cuts_of}
+use Rattle.sweep.proofs.GrownLemmas.{sound_same, further_same, further_more}
+use Rattle.sweep.proofs.GoingLemmas.{arc_dropped, arc_kept}
+use Rattle.sweep.proofs.sweeper.Sweeper.go_on.Goals as goal
+
+pub returns-then-above-clause-further : goal.returns-then-above-clause-further
+returns-then-above-clause-further c = further_same c.args.case.now _ _ c.requires.sound c.in_ok-gains.ensures.lanes refl
+
+pub returns-then-above-clause-led : goal.returns-then-above-clause-led
+returns-then-above-clause-led c =
+    let case = c.args.case.now in
+    let listed : c.deref.result.now ≡ case.arrivals.items = search rules in
+    let arrive : AllArrive case.instance.now (cuts_of case) c.deref.result.now = subst (AllArrive case.instance.now (cuts_of case)) (sym listed) c.requires.sound.arrive in
+    let over : IsTrue c.in_ok-above.above = subst IsTrue (sym c.if-above.true) refl in
+    arc_dropped case c.args.self.now.made c.args.from.now c.args.step.now c.in_ok-label.label c.in_ok-missing.missing c.in_ok-gains.gains c.requires.origin
+    (λ g is. c.in_ok-label.ensures (cuts_of case) arrive g is) c.in_ok-missing.ensures c.in_ok-gains.ensures.gains (c.in_ok-above.ensures over)
+
+pub keep-requires : goal.keep-requires
+keep-requires c = sound_same c.args.case.now _ _ c.requires.sound c.in_ok-gains.ensures.lanes refl
+
+pub returns-clause-further : goal.returns-clause-further
+returns-clause-further c =
+    further_more c.args.case.now _ _ _ (further_same c.args.case.now _ _ c.requires.sound c.in_ok-gains.ensures.lanes refl) c.in_ok-keep.ensures.further
+
+pub returns-clause-led : goal.returns-clause-led
+returns-clause-led c =
+    let case = c.args.case.now in
+    let listed : c.deref.result.now ≡ case.arrivals.items = search rules in
+    let arrive : AllArrive case.instance.now (cuts_of case) c.deref.result.now = subst (AllArrive case.instance.now (cuts_of case)) (sym listed) c.requires.sound.arrive in
+    arc_kept case _ c.args.from.now.label c.args.step.now c.in_ok-label.label (λ g is. c.in_ok-label.ensures (cuts_of case) arrive g is) c.in_ok-keep.ensures.met

@@ -1,0 +1,142 @@
+//! Labels that go on, and what prices bound behind labels.
+ghost use Rattle.std.specs.Prelude.{ℕ, ◌≡◌, ◌+◌, ◌*◌, ◌<◌, length, sum_by, IsTrue, IfOk, OnOk};
+ghost use Rattle.lock_rules.specs.Arrival.{numbers_from};
+ghost use Rattle.sweep_rules.specs.Gain.{prices_missing};
+ghost use Rattle.sweep_labels.specs.Ships.{is_in};
+ghost use Rattle.sweep_labels.specs.Labels.{label_of};
+ghost use Rattle.sweep_labels.specs.Arcs.{IsGainBehind};
+ghost use Rattle.sweep.specs.Bounds.{cuts_of, gain_in, AreLanes, AreGains, IsBoundAbove, IsRoom};
+
+use crate::sums::{added, difference, hundredths};
+use crate::sweep_case::SweepCase;
+use lock_model::CHAMBERS;
+use price_terms::PriceError;
+use sweep_arcs::Lane;
+use sweep_labels::{Label, ReadyTimes, ShipSet};
+
+/// A label that goes on, its number, the prices of its missing ships and the gains of the chambers behind it,
+/// in hundredths of a minute.
+#[derive(Drop)]
+pub(crate) struct Origin {
+    pub(crate) number: u32,
+    pub(crate) label: Label,
+    pub(crate) missing: u64,
+    pub(crate) gains: [u64; CHAMBERS],
+}
+
+#[tactic(auto, using(crate::proofs::BoundLemmas::lanes_set, crate::proofs::BoundLemmas::lane_gain))]
+// The gain of a chamber behind a label that has these minutes of it.
+fn gain_by(
+    case: &SweepCase,
+    lanes: &mut Vec<Lane>,
+    chamber: usize,
+    times: &ReadyTimes,
+) -> Result<u64, PriceError>
+    requires lanes { AreLanes case.now lanes.old.items }
+    requires chamber { chamber < length case.now.instance.now.chambers }
+    ensures lanes { OnOk result (AreLanes case.now lanes.new.items) }
+    ensures gain { IfOk result (IsGainBehind case.now.instance.now (cuts_of case.now) case.now.prices.now chamber times.now) }
+{
+    let lane = &mut lanes[chamber];
+    let gain = lane.gain(times)?;
+    Ok(gain)
+}
+
+#[tactic(auto, using(crate::proofs::BoundLemmas::gains_none, crate::proofs::BoundLemmas::gains_more))]
+/// The gains of all chambers behind a label.
+pub(crate) fn gains_of(
+    case: &SweepCase,
+    lanes: &mut Vec<Lane>,
+    label: &Label,
+) -> Result<[u64; CHAMBERS], PriceError>
+    requires { AreLanes case.now lanes.old.items }
+    ensures lanes { OnOk result (AreLanes case.now lanes.new.items) }
+    ensures gains { IfOk result (AreGains case.now (label_of label.now)) }
+{
+    let mut gains = [0; CHAMBERS];
+    for chamber in 0..case.instance.chambers.as_slice().len() {
+        gains[chamber] = gain_by(case, lanes, chamber, &label.ready[chamber])?;
+    }
+    Ok(gains)
+}
+
+#[tactic(auto, using(crate::proofs::BoundLemmas::sum_more))]
+// The gains of all chambers, added.
+fn sum_of(case: &SweepCase, gains: &[u64; CHAMBERS]) -> Result<u64, PriceError>
+    ensures { IfOk result (λ sum. sum ≡ sum_by (gain_in gains.now) (numbers_from 0 (length case.now.instance.now.chambers))) }
+{
+    let mut sum = 0;
+    for chamber in 0..case.instance.chambers.as_slice().len() {
+        sum = added(sum, gains[chamber])?;
+    }
+    Ok(sum)
+}
+
+#[tactic(auto, using(crate::proofs::BoundLemmas::filter_in, crate::proofs::BoundLemmas::filter_out))]
+/// The prices of the ships that aren't served, added.
+pub(crate) fn missing_prices(case: &SweepCase, served: &ShipSet) -> Result<u64, PriceError>
+    ensures { IfOk result (λ sum. sum ≡ prices_missing case.now.instance.now case.now.prices.now (is_in served.now.bits)) }
+{
+    let count = case.instance.ships.as_slice().len() as u8;
+    let mut sum = 0;
+    for ship in 0..count {
+        if !served.has(ship) {
+            sum = added(sum, case.prices.at(ship) as u64)?;
+        }
+    }
+    Ok(sum)
+}
+
+// What a plan behind a label costs at least, beside the gains, and a minute more.
+fn cost_by(label: &Label, missing: u64) -> Result<u64, PriceError>
+    ensures { IfOk result (λ all. all ≡ 100 * label.now.flow + 100 + missing) }
+{
+    let own = label.flow as u64 * 100 + 100;
+    added(own, missing)
+}
+
+/// Whether a label's bound is above the goal, by the prices of its missing ships and the gains of the chambers.
+pub(crate) fn is_above(
+    case: &SweepCase,
+    label: &Label,
+    missing: u64,
+    gains: &[u64; CHAMBERS],
+    goal: u64,
+) -> Result<bool, PriceError>
+    ensures { IfOk result (λ above. IsTrue above → IsBoundAbove case.now label.now missing gains.now goal) }
+{
+    let low = added(hundredths(goal)?, sum_of(case, gains)?)?;
+    let high = cost_by(label, missing)?;
+    Ok(low < high)
+}
+
+#[tactic(auto, using(crate::proofs::BoundLemmas::room_wide))]
+/// What a group of a chamber may be worth at most by which a label goes on.
+pub(crate) fn room_of(
+    case: &SweepCase,
+    from: &Origin,
+    chamber: usize,
+    goal: u64,
+) -> Result<i64, PriceError>
+    requires { chamber < length case.now.instance.now.chambers }
+    ensures { IfOk result (IsRoom case.now from.now chamber goal) }
+{
+    let beside = sum_of(case, &from.gains)?.saturating_sub(from.gains[chamber]);
+    let low = added(hundredths(goal)?, beside)?;
+    let high = cost_by(&from.label, from.missing)?;
+    let room = difference(low, high)?;
+    Ok(room)
+}
+
+/// By how much a label's bound is below the goal: so far arcs are listed.
+pub(crate) fn spread_of(
+    case: &SweepCase,
+    label: &Label,
+    missing: u64,
+    gains: &[u64; CHAMBERS],
+    goal: u64,
+) -> Result<i64, PriceError> {
+    let low = added(hundredths(goal)?, sum_of(case, gains)?)?;
+    let high = cost_by(label, missing)?;
+    difference(low, high)
+}

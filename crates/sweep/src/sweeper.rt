@@ -1,0 +1,298 @@
+//! A sweep in work.
+ghost use Rattle.std.specs.Prelude.{ℕ, ◌≡◌, ◌+◌, ◌<◌, ◌≤◌, false, length, slice_index_or, IfOk, OnOk};
+ghost use Rattle.sweep_rules.specs.Treated.{IsTreated};
+ghost use Rattle.sweep_labels.specs.Ships.{is_in};
+ghost use Rattle.sweep_labels.specs.Putting.{open_at};
+ghost use Rattle.sweep_labels.specs.Sweeping.{labels_of};
+ghost use Rattle.sweep_labels.specs.Labels.{label_of};
+ghost use Rattle.sweep_labels.specs.declared.label.KeptLabel.{KeptLabel as AnyLabel};
+ghost use Rattle.sweep.specs.Bounds.{cuts_of, AreLanes, AreArcsAsked, IsOrigin};
+ghost use Rattle.sweep.specs.Going.{IsSound, IsFurther, IsMetBy, IsBegun, IsArcLed, AreArcsLed, IsWayLed, AreLed};
+
+use crate::origin::{Origin, gains_of, is_above, missing_prices, room_of, spread_of};
+use crate::sums::less;
+use crate::sweep_case::SweepCase;
+use lock_model::Way;
+use price_terms::PriceError;
+use sweep_arcs::{ArcsAsked, Lane};
+use sweep_labels::{Arc, KeptLabel, Label, Made, Queue, Step};
+use sweep_labels::{are_closed, first_label, gone_on};
+
+/// The chambers, the labels that were made and what is to be swept, those that are open, and how far arcs
+/// are listed.
+#[derive(Drop)]
+pub(crate) struct Sweeper<'a> {
+    pub(crate) lanes: Vec<Lane<'a>>,
+    pub(crate) made: Made,
+    pub(crate) queue: Queue,
+    pub(crate) spread: i64,
+}
+
+#[tactic(auto, using(crate::proofs::BoundLemmas::lanes_set, crate::proofs::BoundLemmas::lane_arcs))]
+// The arcs of a chamber that are asked for.
+fn arcs_of(
+    case: &SweepCase,
+    lanes: &mut Vec<Lane>,
+    chamber: usize,
+    asked: &ArcsAsked,
+) -> Result<Vec<Arc>, PriceError>
+    requires lanes { AreLanes case.now lanes.old.items }
+    requires chamber { chamber < length case.now.instance.now.chambers }
+    ensures lanes { OnOk result (AreLanes case.now lanes.new.items) }
+    ensures arcs { IfOk result (λ arcs. AreArcsAsked case.now chamber asked.now arcs.items) }
+{
+    let lane = &mut lanes[chamber];
+    let arcs = lane.arcs(asked)?;
+    Ok(arcs)
+}
+
+// Puts a label that is open to the queue.
+fn put_to(queue: &mut Queue, number: Option<u32>, kept: &KeptLabel) -> Result<(), PriceError> {
+    match number {
+        None => Ok(()),
+        Some(number) => queue.put(number, kept.start, kept.chamber),
+    }
+}
+
+impl Sweeper<'_> {
+    #[tactic(auto, using(crate::proofs::GrownLemmas::kept_further))]
+    // Keeps a label.
+    fn keep(&mut self, case: &SweepCase, kept: KeptLabel) -> Result<(), PriceError>
+        requires { IsSound case.now self.old }
+        ensures further { OnOk result (IsFurther case.now self.old self.new) }
+        ensures met { OnOk result (IsMetBy case.now self.new.made (label_of kept.label)) }
+    {
+        if self.made.labels.items.len() >= case.most {
+            return Err(PriceError::TooMany);
+        }
+        let whole = case.first_missing(&kept.label.served).is_none();
+        let number = self.made.keep(kept, whole)?;
+        put_to(&mut self.queue, number, &kept)?;
+        Ok(())
+    }
+
+    #[tactic(auto, using(crate::proofs::GrownLemmas::sound_same, crate::proofs::GrownLemmas::further_same, crate::proofs::GrownLemmas::further_more, crate::proofs::GoingLemmas::arc_dropped, crate::proofs::GoingLemmas::arc_kept))]
+    // Goes on by a step.
+    fn go_on(&mut self, case: &SweepCase, from: &Origin, step: &Step) -> Result<(), PriceError>
+        requires sound { IsSound case.now self.old }
+        requires origin { IsOrigin case.now from.now }
+        requires chamber { step.now.chamber < length case.now.instance.now.chambers }
+        ensures further { OnOk result (IsFurther case.now self.old self.new) }
+        ensures led { OnOk result (IsArcLed case.now self.new.made from.now.label step.now.chamber step.now.way step.now.arc) }
+    {
+        let label = gone_on(case.instance, &case.arrivals, &from.label, step)?;
+        let gains = gains_of(case, &mut self.lanes, &label)?;
+        let missing = less(from.missing, step.arc.prices)?;
+        let above = is_above(case, &label, missing, &gains, self.made.goal)?;
+        if above {
+            return Ok(());
+        }
+        let kept = KeptLabel {
+            label,
+            parent: Some(from.number),
+            chamber: step.chamber,
+            start: step.arc.start,
+        };
+        self.keep(case, kept)?;
+        Ok(())
+    }
+
+    #[tactic(auto, using(crate::proofs::GrownLemmas::further_same, crate::proofs::GrownLemmas::further_more, crate::proofs::GrownLemmas::arcs_led_none, crate::proofs::GrownLemmas::arcs_led_more))]
+    // Goes on by arcs of a chamber and a way.
+    fn go_by_arcs(
+        &mut self,
+        case: &SweepCase,
+        from: &Origin,
+        chamber: u8,
+        way: Way,
+        arcs: &[Arc],
+    ) -> Result<(), PriceError>
+        requires sound { IsSound case.now self.old }
+        requires origin { IsOrigin case.now from.now }
+        requires chamber { chamber < length case.now.instance.now.chambers }
+        ensures further { OnOk result (IsFurther case.now self.old self.new) }
+        ensures led { OnOk result (AreArcsLed case.now self.new.made from.now.label chamber way (length arcs.now) arcs.now) }
+    {
+        for place in 0..arcs.len() {
+            let arc = arcs[place];
+            self.go_on(case, from, &Step { chamber, way, arc })?;
+        }
+        Ok(())
+    }
+
+    #[tactic(auto, using(crate::proofs::GrownLemmas::sound_same, crate::proofs::GrownLemmas::further_same, crate::proofs::GrownLemmas::further_more, crate::proofs::GoingLemmas::way_led))]
+    // Goes on by a chamber and a way.
+    fn go_by(
+        &mut self,
+        case: &SweepCase,
+        from: &Origin,
+        chamber: u8,
+        way: Way,
+    ) -> Result<(), PriceError>
+        requires sound { IsSound case.now self.old }
+        requires origin { IsOrigin case.now from.now }
+        requires chamber { chamber < length case.now.instance.now.chambers }
+        ensures further { OnOk result (IsFurther case.now self.old self.new) }
+        ensures led { OnOk result (IsWayLed case.now self.new.made (label_of from.now.label) chamber way) }
+    {
+        let place = chamber as usize;
+        let minute = from.label.ready[place].by(way);
+        let room = room_of(case, from, place, self.made.goal)?;
+        let asked = ArcsAsked {
+            way,
+            minute,
+            served: from.label.served,
+            room,
+            spread: self.spread,
+        };
+        let arcs = arcs_of(case, &mut self.lanes, place, &asked)?;
+        self.go_by_arcs(case, from, chamber, way, &arcs)?;
+        Ok(())
+    }
+
+    #[tactic(auto, using(crate::proofs::GrownLemmas::further_more, crate::proofs::GrownLemmas::way_led_on))]
+    // Goes on by a chamber.
+    fn go_by_both(&mut self, case: &SweepCase, from: &Origin, chamber: u8) -> Result<(), PriceError>
+        requires sound { IsSound case.now self.old }
+        requires origin { IsOrigin case.now from.now }
+        requires chamber { chamber < length case.now.instance.now.chambers }
+        ensures further { OnOk result (IsFurther case.now self.old self.new) }
+        ensures up { OnOk result (IsWayLed case.now self.new.made (label_of from.now.label) chamber Way.Up) }
+        ensures down { OnOk result (IsWayLed case.now self.new.made (label_of from.now.label) chamber Way.Down) }
+    {
+        self.go_by(case, from, chamber, Way::Up)?;
+        self.go_by(case, from, chamber, Way::Down)?;
+        Ok(())
+    }
+
+    #[tactic(auto, using(crate::proofs::GrownLemmas::further_same, crate::proofs::GrownLemmas::further_more, crate::proofs::GrownLemmas::led_none, crate::proofs::GrownLemmas::led_more))]
+    // Goes on by all chambers.
+    fn go_by_all(&mut self, case: &SweepCase, from: &Origin) -> Result<(), PriceError>
+        requires sound { IsSound case.now self.old }
+        requires origin { IsOrigin case.now from.now }
+        ensures further { OnOk result (IsFurther case.now self.old self.new) }
+        ensures led { OnOk result (AreLed case.now self.new.made (label_of from.now.label) (length case.now.instance.now.chambers)) }
+    {
+        let count = case.instance.chambers.as_slice().len() as u8;
+        for chamber in 0..count {
+            self.go_by_both(case, from, chamber)?;
+        }
+        Ok(())
+    }
+
+    #[tactic(auto, using(crate::proofs::GrownLemmas::closed_further))]
+    // Closes a treated label.
+    fn close(&mut self, case: &SweepCase, number: u32)
+        requires sound { IsSound case.now self.old }
+        requires treated { IsTreated case.now.instance.now (cuts_of case.now) self.old.made.goal (labels_of self.old.made.labels.items.items) number }
+        ensures { IsFurther case.now self.old self.new }
+    {
+        self.made.labels.close(number as usize);
+    }
+
+    #[tactic(auto, using(crate::proofs::GrownLemmas::further_more, crate::proofs::GoingLemmas::at_number, crate::proofs::GoingLemmas::at_number_on, crate::proofs::GoingLemmas::bound_treated, crate::proofs::GoingLemmas::led_treated))]
+    // Goes on from the label of a number that misses a ship, unless its bound is above the goal, and closes it.
+    fn treat(&mut self, case: &SweepCase, from: &Origin, missed: u8) -> Result<(), PriceError>
+        requires sound { IsSound case.now self.old }
+        requires origin { IsOrigin case.now from.now }
+        requires within { from.now.number < length self.old.made.labels.items.items }
+        requires label { (d : AnyLabel) → from.now.label ≡ (slice_index_or self.old.made.labels.items.items from.now.number d).label }
+        requires known { missed < length case.now.instance.now.ships }
+        requires missing { is_in from.now.label.served.bits missed ≡ false }
+        ensures { OnOk result (IsFurther case.now self.old self.new) }
+    {
+        let above = is_above(case, &from.label, from.missing, &from.gains, self.made.goal)?;
+        if above {
+            self.close(case, from.number);
+            return Ok(());
+        }
+        self.go_by_all(case, from)?;
+        self.close(case, from.number);
+        Ok(())
+    }
+
+    #[tactic(auto, using(crate::proofs::GrownLemmas::sound_same, crate::proofs::GrownLemmas::further_same, crate::proofs::GrownLemmas::further_more))]
+    // Goes on from the label of a number, and closes it.
+    fn expand(&mut self, case: &SweepCase, number: u32, label: Label) -> Result<(), PriceError>
+        requires sound { IsSound case.now self.old }
+        requires within { number < length self.old.made.labels.items.items }
+        requires label { (d : AnyLabel) → label ≡ (slice_index_or self.old.made.labels.items.items number d).label }
+        ensures { OnOk result (IsFurther case.now self.old self.new) }
+    {
+        let Some(missed) = case.first_missing(&label.served) else {
+            return Err(PriceError::TooMany);
+        };
+        let missing = missing_prices(case, &label.served)?;
+        let gains = gains_of(case, &mut self.lanes, &label)?;
+        let from = Origin {
+            number,
+            label,
+            missing,
+            gains,
+        };
+        self.treat(case, &from, missed)?;
+        Ok(())
+    }
+
+    #[tactic(auto, using(crate::proofs::GrownLemmas::further_same))]
+    // Goes on from the label of a number, where it is open.
+    fn settle(&mut self, case: &SweepCase, number: u32) -> Result<(), PriceError>
+        requires { IsSound case.now self.old }
+        ensures { OnOk result (IsFurther case.now self.old self.new) }
+    {
+        match self.made.labels.open_label(number as usize) {
+            None => Ok(()),
+            Some(label) => self.expand(case, number, label),
+        }
+    }
+
+    #[tactic(auto, using(crate::proofs::GrownLemmas::sound_same, crate::proofs::GrownLemmas::further_same, crate::proofs::GrownLemmas::further_more))]
+    // Goes on from labels until the queue has none.
+    fn settle_all(&mut self, case: &SweepCase) -> Result<(), PriceError>
+        requires { IsSound case.now self.old }
+        ensures { OnOk result (IsFurther case.now self.old self.new) }
+    {
+        for _ in 0..u64::MAX {
+            match self.queue.take()? {
+                None => return Ok(()),
+                Some(number) => self.settle(case, number)?,
+            }
+        }
+        Ok(())
+    }
+
+    /// Goes on from all labels. In the end none is open: else the sweep isn't done.
+    pub(crate) fn run(&mut self, case: &SweepCase) -> Result<(), PriceError>
+        requires { IsSound case.now self.old }
+        ensures further { OnOk result (IsFurther case.now self.old self.new) }
+        ensures closed { OnOk result ((k : ℕ) → open_at self.new.made.labels.are_open.items k ≡ false) }
+    {
+        self.settle_all(case)?;
+        if are_closed(&self.made.labels.are_open) {
+            Ok(())
+        } else {
+            Err(PriceError::TooMany)
+        }
+    }
+
+    #[tactic(auto, using(crate::proofs::GrownLemmas::sound_same, crate::proofs::GrownLemmas::further_same, crate::proofs::GrownLemmas::further_more))]
+    /// Begins with the label that serves nobody.
+    pub(crate) fn begin(&mut self, case: &SweepCase) -> Result<(), PriceError>
+        requires { IsSound case.now self.old }
+        ensures further { OnOk result (IsFurther case.now self.old self.new) }
+        ensures begun { OnOk result (IsBegun case.now self.new.made) }
+    {
+        let label = first_label(case.instance, &case.arrivals)?;
+        let missing = missing_prices(case, &label.served)?;
+        let gains = gains_of(case, &mut self.lanes, &label)?;
+        self.spread = spread_of(case, &label, missing, &gains, self.made.goal)?;
+        let kept = KeptLabel {
+            label,
+            parent: None,
+            chamber: 0,
+            start: 0,
+        };
+        self.keep(case, kept)?;
+        Ok(())
+    }
+}

@@ -1,0 +1,9 @@
+pub mod Ships
+pub mod Labels
+pub mod Putting
+pub mod Rows
+pub mod Coming
+pub mod Steps
+pub mod Arcs
+pub mod Sweeping
+pub mod Made
