@@ -2,11 +2,13 @@
 """mip.py PROGRAM [--solve cbc|glpsol] [--seconds N] < INSTANCE: the day of an instance without closures as a mixed-integer program.
 
 It prints the program in the LP format that stock solvers read. Which ships fit a chamber together is given to the model, not found by it:
-PROGRAM is asked of each set of ships of one way (its passage made so long that a second lockage never pays). Each chamber has numbered slots;
-a slot takes at most one group, starts no sooner than its ships have come and the slot before is over, by an empty turn later where both have
-the same way; the flow times of the ships are added. With --solve it prints the solver's status, cost and seconds instead."""
+PROGRAM is asked of each set of ships of one way (its passage made so long that a second lockage never pays). Each chamber is a path through a
+network of minutes and sides, by waiting, by empty turns and by lockages; each ship is in one lockage of all paths, and the flow times are
+added. Without the demand that lockages are whole its bound is about that of prices at the root. With --solve it prints the solver's status,
+cost and seconds instead."""
 
 import argparse
+import collections
 import itertools
 import os
 import re
@@ -50,40 +52,41 @@ def groups_of(program, chamber, ships):
 def model(program, chambers, ships):
     """The lines of the mixed-integer program."""
     arrival, handling = [int(ship[5]) for ship in ships], [int(ship[6]) for ship in ships]
-    opens = [int(chamber[11]) for chamber in chambers]
     longest = max(int(chamber[8]) + int(chamber[9]) for chamber in chambers)
-    late = max(arrival + opens) + longest + sum(longest + minutes for minutes in handling)
-    rows, binaries, held = [], [], [[] for _ in ships]
+    late = max(arrival + [int(chamber[11]) for chamber in chambers]) + longest + sum(longest + minutes for minutes in handling)
+    cost, binaries = [], []
+    nodes = collections.defaultdict(list)
+    served = collections.defaultdict(list)
+
+    def arc(name, chamber, begin, end):
+        """An arc of a chamber's network from one minute and side to another."""
+        nodes[(chamber, *begin)].append(f"- {name}")
+        if end[0] <= late:
+            nodes[(chamber, *end)].append(f"+ {name}")
+
     for c, chamber in enumerate(chambers):
-        passage, turn = int(chamber[8]), int(chamber[9])
-        groups = groups_of(program, chamber, ships)
-        for k in range(len(ships)):
-            names = [f"x{c}_{k}_{g}" for g in range(len(groups))]
-            ways = {way: [name for name, group in zip(names, groups) if ships[group[0]][2] == way] for way in ("up", "down")}
-            minutes = [passage + sum(handling[s] for s in group) for group in groups]
-            start, end = f"start{c}_{k}", f"end{c}_{k}"
-            binaries += names
-            rows.append((names, [1] * len(names), "<=", 1))
-            rows.append(([end, start, *names], [1, -1, *(-m for m in minutes)], "=", 0))
-            rows.append(([start, *names], [1, *(-max(arrival[s] for s in group) for group in groups)], ">=", 0))
-            if k == 0:
-                turned = ways["down" if chamber[10] == "low" else "up"]
-                rows.append(([start, *turned], [1, *[-turn] * len(turned)], ">=", opens[c]))
-            else:
-                before = {way: [name.replace(f"_{k}_", f"_{k - 1}_") for name in own] for way, own in ways.items()}
-                rows.append(([start, f"end{c}_{k - 1}"], [1, -1], ">=", 0))
-                for way in ways:
-                    both = ways[way] + before[way]
-                    rows.append(([start, f"end{c}_{k - 1}", *both], [1, -1, *[-turn] * len(both)], ">=", -turn))
-                rows.append((names + before["up"] + before["down"], [1] * len(names) + [-1] * len(names), "<=", 0))
-            for s in range(len(ships)):
-                own = [name for name, group in zip(names, groups) if s in group]
-                held[s] += own
-                rows.append(([f"flow{s}", end, *own], [1, -1, *[-late] * len(own)], ">=", -arrival[s] - late))
-    rows += [(own, [1] * len(own), "=", 1) for own in held]
-    yield from ["Minimize", " cost: " + " + ".join(f"flow{s}" for s in range(len(ships))), "Subject To"]
-    for number, (names, by, sign, right) in enumerate(rows):
-        yield f" r{number}: " + " ".join(f"{factor:+d} {name}" for name, factor in zip(names, by) if factor) + f" {sign} {right}"
+        passage, turn, opens = int(chamber[8]), int(chamber[9]), int(chamber[11])
+        for t in range(opens, late):
+            for side, other in (("low", "high"), ("high", "low")):
+                arc(f"wait_{c}_{t}_{side}", c, (t, side), (t + 1, side))
+                arc(f"turn_{c}_{t}_{side}", c, (t, side), (t + turn, other))
+        for g, group in enumerate(groups_of(program, chamber, ships)):
+            begins, ends = ("low", "high") if ships[group[0]][2] == "up" else ("high", "low")
+            minutes = passage + sum(handling[s] for s in group)
+            for t in range(max([opens, *(arrival[s] for s in group)]), late - minutes + 1):
+                name = f"go_{c}_{g}_{t}"
+                arc(name, c, (t, begins), (t + minutes, ends))
+                cost.append(f"{sum(t + minutes - arrival[s] for s in group)} {name}")
+                binaries.append(name)
+                for s in group:
+                    served[s].append(name)
+    yield from ["Minimize", " cost: " + "\n + ".join(cost), "Subject To"]
+    for (c, t, side), arcs in nodes.items():
+        first = (t, side) == (int(chambers[c][11]), chambers[c][10])
+        if t < late:
+            yield f" at_{c}_{t}_{side}: " + "\n ".join(arcs) + f" = {-1 if first else 0}"
+    for s, names in served.items():
+        yield f" ship_{s}: " + "\n + ".join(names) + " = 1"
     yield from ["Binaries", *(" " + name for name in binaries), "End"]
 
 

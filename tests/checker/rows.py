@@ -18,7 +18,7 @@ from texts import judged, solved
 from worked_refutations import REFUTED, asking
 
 CHECKER, MOST_LINES = pathlib.Path(__file__).resolve().parents[2] / "checker", 700
-JUDGING = "check_dossier dossier_text price_bound refutations times".split()
+JUDGING = "check_dossier dossier_text price_bound refutations sweep times".split()
 ROWS = pathlib.Path(__file__).resolve().parents[1] / "rows"
 sys.path.append(str(ROWS))
 from read_rows import ASKED, rows_of
