@@ -1,4 +1,4 @@
-use Rattle.std.proofs.Common.{◌≡◌, ◌+◌, ◌∙◌, [], length, sym, ap, subst}
+use Rattle.std.proofs.Common.{◌≡◌, ◌+◌, ◌∙◌, length, sym, ap, subst}
 use Rattle.price_groups.specs.Asked.{line_asked}
 use Rattle.price_groups.specs.declared.line_case.LineCase.{LineCase}
 use Rattle.price_successors.specs.SuccessorLists.{AreSuccessorLists}
