@@ -24,9 +24,11 @@ class Lane(Table):
     def value(self, side, minute):
         """The least worth of ways to go on, from a minute on at which the chamber is free at a side."""
         if (side, minute) not in self.values:
-            stands = (side, minute), (1 - side, ready(self.chamber, side, 1 - side, minute))
-            self.values[side, minute] = min([0, *(more + self.value(1 - way, end) for way, at in stands
-                                                  for end, more in self.lockages(None, way, at))])
+            least = 0
+            for way, at in ((side, minute), (1 - side, ready(self.chamber, side, 1 - side, minute))):
+                for end, more in self.lockages(None, way, at):
+                    least = min(least, more + self.value(1 - way, end))
+            self.values[side, minute] = least
         return self.values[side, minute]
 
     def arcs(self, missing, way, minute, room):
