@@ -34,7 +34,7 @@ grown_more a b c f g h first second = record {
 
 module _ (case : SweepCase) where
   -- the sweep with other things changed than its lanes and labels is as sound, and as far on
-  pub sound_same : (s t : Sweeper) → IsSound case s → AreLanes case t.lanes.items → t.made ≡ s.made → IsSound case t
+  pub sound_same : (s t : Sweeper) → IsSound case s → AreLanes case t.lanes.now → t.made ≡ s.made → IsSound case t
   sound_same s t sound lanes made = record {
     arrive = sound.arrive;
     lanes = lanes;
@@ -42,7 +42,7 @@ module _ (case : SweepCase) where
     treated = subst (λ (made : Made). AreTreated case.instance.now (cuts_of case) made.goal made.labels.items.items made.labels.are_open.items) (sym made) sound.treated;
   }
 
-  pub further_same : (s t : Sweeper) → IsSound case s → AreLanes case t.lanes.items → t.made ≡ s.made → IsFurther case s t
+  pub further_same : (s t : Sweeper) → IsSound case s → AreLanes case t.lanes.now → t.made ≡ s.made → IsFurther case s t
   further_same s t sound lanes made = record {
     sound = sound_same s t sound lanes made;
     grown = subst (IsGrown s.made) (sym made) (grown_none s.made.labels.items.items s.made.goal);
@@ -98,7 +98,7 @@ module _ (case : SweepCase) where
   }
 
   -- a label is kept
-  pub kept_further : (s t : Sweeper) (l : KeptLabel) → IsSound case s → AreLanes case t.lanes.items
+  pub kept_further : (s t : Sweeper) (l : KeptLabel) → IsSound case s → AreLanes case t.lanes.now
       → IsKept l s.made.labels.items.items s.made.labels.are_open.items s.made.goal t.made.labels.items.items t.made.labels.are_open.items t.made.goal → IsFurther case s t
   kept_further s t l sound lanes kept = record {
     sound = record {
@@ -111,7 +111,7 @@ module _ (case : SweepCase) where
   }
 
   -- a treated label is closed
-  pub closed_further : (s t : Sweeper) (n : ℕ) → IsSound case s → AreLanes case t.lanes.items → t.made.goal ≡ s.made.goal → t.made.labels.items.items ≡ s.made.labels.items.items
+  pub closed_further : (s t : Sweeper) (n : ℕ) → IsSound case s → AreLanes case t.lanes.now → t.made.goal ≡ s.made.goal → t.made.labels.items.items ≡ s.made.labels.items.items
       → t.made.labels.are_open.items ≡ slice_set s.made.labels.are_open.items n false
       → IsTreated case.instance.now (cuts_of case) s.made.goal (labels_of s.made.labels.items.items) n → IsFurther case s t
   closed_further s t n sound lanes goal items flags treated = record {
