@@ -1,12 +1,12 @@
 -- What was met stays so as a sweep goes on.
-use Rattle.std.proofs.Common.{◌≡◌, ◌≢◌, ℕ, ◌+◌, ◌<◌, ◌≤◌, false, inl, inr, List, [], ◌++◌, length, refl, sym, ap, ◌∙◌, subst, arith, slice_index_or, slice_set, append-nil, append_assoc, length-append}
-use Rattle.std.proofs.lemmas.List.{length-set, get_or_append_left}
+use Rattle.std.proofs.Common.{◌≡◌, ◌≢◌, ℕ, ◌+◌, ◌<◌, false, inl, inr, List, [], ◌++◌, length, refl, sym, ap, ◌∙◌, subst, arith, slice_set, append-nil, append_assoc}
+use Rattle.std.proofs.lemmas.List.{length-set}
 use Rattle.std.proofs.lemmas.Bool.Decides.{eqb_tells}
 use Rattle.lock_model.specs.declared.group.Group.{Group}
 use Rattle.lock_model.specs.declared.way.Way.{Way}
 use Rattle.lock_model.specs.declared.way.Way.TheVariants.{Up, Down}
 use Rattle.sweep_rules.specs.Label.{Label, CanGoOn}
-use Rattle.sweep_rules.specs.Treated.{IsTreated, label_at}
+use Rattle.sweep_rules.specs.Treated.{IsTreated}
 use Rattle.sweep_labels.specs.declared.label.Label.{Label as CodeLabel}
 use Rattle.sweep_labels.specs.declared.label.KeptLabel.{KeptLabel}
 use Rattle.sweep_labels.specs.declared.made.Made.{Made}
@@ -16,7 +16,7 @@ use Rattle.sweep_labels.specs.Sweeping.{labels_of, AreTreated}
 use Rattle.sweep_labels.specs.Made.{HasGrown, IsKept}
 use Rattle.sweep_labels.specs.Arcs.{arc_at}
 use Rattle.sweep_labels.proofs.MadeLemmas.{met_grown}
-use Rattle.sweep_labels.proofs.SweepingLemmas.{label-at, closed-treated}
+use Rattle.sweep_labels.proofs.SweepingLemmas.{closed-treated}
 use Rattle.sweep.specs.declared.sweep_case.SweepCase.{SweepCase}
 use Rattle.sweep.specs.declared.sweeper.Sweeper.{Sweeper}
 use Rattle.sweep.specs.Bounds.{cuts_of, AreLanes}

@@ -1,5 +1,5 @@
 //! Labels that go on, and what prices bound behind labels.
-ghost use Rattle.std.specs.Prelude.{ℕ, ◌≡◌, ◌+◌, ◌*◌, ◌<◌, length, sum_by, IsTrue, IfOk, OnOk};
+ghost use Rattle.std.specs.Prelude.{◌≡◌, ◌+◌, ◌*◌, ◌<◌, length, sum_by, IsTrue, IfOk, OnOk};
 ghost use Rattle.lock_rules.specs.Arrival.{numbers_from};
 ghost use Rattle.sweep_rules.specs.Gain.{prices_missing};
 ghost use Rattle.sweep_labels.specs.Ships.{is_in};

@@ -1,5 +1,5 @@
 //! A sweep in work.
-ghost use Rattle.std.specs.Prelude.{ℕ, ◌≡◌, ◌+◌, ◌<◌, ◌≤◌, false, length, slice_index_or, IfOk, OnOk};
+ghost use Rattle.std.specs.Prelude.{ℕ, ◌≡◌, ◌<◌, false, length, slice_index_or, IfOk, OnOk};
 ghost use Rattle.sweep_rules.specs.Treated.{IsTreated};
 ghost use Rattle.sweep_labels.specs.Ships.{is_in};
 ghost use Rattle.sweep_labels.specs.Putting.{open_at};

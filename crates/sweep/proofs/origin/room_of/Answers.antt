@@ -1,4 +1,4 @@
-use Rattle.std.proofs.Common.{SFits, to_z, of_z, w64, sym, subst, arith, rules}
+use Rattle.std.proofs.Common.{SFits, w64, sym, subst, arith, rules}
 use Rattle.std.proofs.lemmas.Int.{to_z-of_z}
 use Rattle.sweep.specs.Bounds.{IsRoom}
 use Rattle.sweep.proofs.BoundLemmas.{room_wide}

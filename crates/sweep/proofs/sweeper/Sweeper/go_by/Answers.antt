@@ -1,4 +1,4 @@
-use Rattle.std.proofs.Common.{◌≡◌, SFits, to_z, of_z, w64, length, refl, sym, subst, rules}
+use Rattle.std.proofs.Common.{◌≡◌, SFits, w64, length, refl, subst, rules}
 use Rattle.std.proofs.lemmas.Int.{to_z-of_z}
 use Rattle.sweep_labels.specs.Arcs.{AreArcs}
 use Rattle.sweep_labels.specs.Labels.{ready_by, times_at}
