@@ -2,3 +2,4 @@ pub mod GrownLemmas
 pub mod BoundLemmas
 pub mod GoingLemmas
 pub mod EndLemmas
+pub mod JudgeLemmas

@@ -1,17 +1,20 @@
 -- How a sweep begins and ends.
 use Rattle.std.specs.Prelude.{ℕ, ◌≡◌, ◌<◌, ⊤, List, [], length, slice_index_or}
 use Rattle.lock_model.specs.declared.instance.Instance.{Instance}
-use Rattle.price_rules.specs.Prices.{PlainCut}
+use Rattle.lock_model.specs.declared.group.Group.{Group}
+use Rattle.price_rules.specs.Prices.{PlainCut, flow_over}
 use Rattle.price_terms.specs.Cuts.{plain_cuts}
 use Rattle.price_groups.specs.Asks.{line_ask}
 use Rattle.price_groups.specs.Asked.{line_asked}
 use Rattle.price_groups.specs.declared.line_case.LineCase.{LineCase}
-use Rattle.sweep_rules.specs.Uncut.{IsSwept}
+use Rattle.sweep_rules.specs.Uncut.{IsSwept, IsUncutPlan}
 use Rattle.sweep_labels.specs.declared.arrivals.Arrivals.{Arrivals}
 use Rattle.sweep_labels.specs.Coming.{ArriveIn}
 use Rattle.sweep.specs.declared.asked.SweepAsked.{SweepAsked}
+use Rattle.sweep.specs.declared.plan.UncutPlan.{UncutPlan}
 use Rattle.sweep.specs.declared.sweeping.SweepEnd.{SweepEnd}
 use Rattle.sweep.specs.declared.sweeping.SweepEnd.TheVariants.{Swept, Cheaper}
+use Rattle.sweep.specs.Judging.{lines_in}
 
 -- the case of chamber c without a line
 pub record IsCase (asked : SweepAsked) (c : ℕ) (case : LineCase) : Type 0 where
@@ -35,7 +38,7 @@ IsSweptBy asked goal = IsSwept asked.instance.now (plain_cuts asked.instance.now
 
 -- the lines of a plan that was found
 abbrev pub lines_of : UncutPlan → ℕ → List Group
-lines_of plan c = (slice_index_or plan.lines.items c no_line).items
+lines_of plan = lines_in plan.lines.items
 
 -- it is an uncut plan that costs less than the goal
 pub record IsCheaper (asked : SweepAsked) (plan : UncutPlan) : Type 0 where
@@ -45,5 +48,5 @@ pub record IsCheaper (asked : SweepAsked) (plan : UncutPlan) : Type 0 where
 
 -- How the sweep ended: the goal that was asked is swept, or an uncut plan costs less.
 abbrev pub IsSweepEnd : SweepAsked → SweepEnd → Type 0
-IsSweepEnd asked (Swept swept) = swept.value ≡ record { instance = asked.instance.now; cuts = asked.cuts.now; cost = asked.goal }
+IsSweepEnd asked (Swept swept) = swept ≡ record { instance = asked.instance.now; cuts = asked.cuts.now; cost = asked.goal }
 IsSweepEnd asked (Cheaper plan) = IsCheaper asked plan

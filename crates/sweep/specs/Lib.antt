@@ -1,3 +1,4 @@
 pub mod Bounds
 pub mod Going
+pub mod Judging
 pub mod Ends

@@ -1,6 +1,9 @@
 //! What is asked of a sweep.
+ghost use Rattle.std.specs.Prelude.{◌<◌, length};
+ghost use Rattle.sweep.specs.Ends.{IsCase};
 
 use lock_model::Instance;
+use price_groups::LineCase;
 use price_terms::{ChamberCut, Prices};
 
 /// An instance, cuts, prices that help speed alone, and a cost in minutes that is to be swept.
@@ -10,6 +13,25 @@ pub struct SweepAsked<'a> {
     pub cuts: &'a [ChamberCut],
     pub prices: &'a Prices,
     pub goal: u64,
+}
+
+impl<'a> SweepAsked<'a> {
+    /// The case of a chamber without a line.
+    pub(crate) fn case_of(&self, index: u8) -> LineCase<'a>
+        requires { index < length self.now.instance.now.chambers }
+        ensures { IsCase self.now index result }
+    {
+        LineCase {
+            instance: self.instance,
+            cuts: self.cuts,
+            prices: self.prices,
+            depth: 0,
+            held: &[],
+            index,
+            chamber: &self.instance.chambers.as_slice()[index as usize],
+            line: &[],
+        }
+    }
 }
 
 /// How much a sweep may take.

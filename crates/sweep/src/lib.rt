@@ -11,6 +11,7 @@
 #![tactic(auto)]
 
 mod asked;
+mod judging;
 mod origin;
 mod plan;
 mod sums;

@@ -83,22 +83,25 @@ fn put_step(
         return Ok(number);
     };
     let before = kept_at(labels, parent as usize)?;
-    put_first(lines, kept.chamber as usize, group_of(instance, &kept, &before))?;
+    put_first(
+        lines,
+        kept.chamber as usize,
+        group_of(instance, &kept, &before),
+    )?;
     Ok(parent as usize)
 }
 
-/// The lines that lead to the label of a number.
-pub(crate) fn plan_of(
+/// The lines that lead to the label of a number. Nothing is claimed of them: they are judged.
+pub(crate) fn lines_to(
     alloc: Global,
     instance: &Instance,
     labels: &[KeptLabel],
     number: u32,
-) -> Result<UncutPlan, PriceError> {
+) -> Result<Vec<Vec<Group>>, PriceError> {
     let mut lines = empty_lines(alloc, instance.chambers.as_slice().len())?;
     let mut at = number as usize;
     for _ in 0..SHIPS {
         at = put_step(instance, labels, &mut lines, at)?;
     }
-    let cost = kept_at(labels, number as usize)?.label.flow as u64;
-    Ok(UncutPlan { lines, cost })
+    Ok(lines)
 }

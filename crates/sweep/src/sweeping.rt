@@ -3,10 +3,11 @@ ghost use Rattle.std.specs.Prelude.{◌≡◌, ◌≤◌, ◌<◌, [], length, I
 ghost use Rattle.price_terms.specs.Cuts.{plain_cuts};
 ghost use Rattle.sweep_labels.specs.Coming.{AllArrive};
 ghost use Rattle.sweep.specs.Bounds.{cuts_of, AreLanesOf, AreLanes};
-ghost use Rattle.sweep.specs.Ends.{IsCase, AreCases, ArriveInFirst, IsSweptBy, IsSweepEnd};
+ghost use Rattle.sweep.specs.Ends.{AreCases, ArriveInFirst, IsSweptBy, IsSweepEnd};
 
 use crate::asked::{SweepAsked, SweepLimits};
-use crate::plan::{UncutPlan, plan_of};
+use crate::judging::judged;
+use crate::plan::{UncutPlan, lines_to};
 use crate::sweep_case::SweepCase;
 use crate::sweeper::Sweeper;
 use price_groups::LineCase;
@@ -31,23 +32,6 @@ pub struct SweepOutcome<'a> {
     pub labels: u64,
 }
 
-// The case of a chamber without a line.
-fn case_of<'a>(asked: &SweepAsked<'a>, index: u8) -> LineCase<'a>
-    requires { index < length asked.now.instance.now.chambers }
-    ensures { IsCase asked.now index result }
-{
-    LineCase {
-        instance: asked.instance,
-        cuts: asked.cuts,
-        prices: asked.prices,
-        depth: 0,
-        held: &[],
-        index,
-        chamber: &asked.instance.chambers.as_slice()[index as usize],
-        line: &[],
-    }
-}
-
 // The cases of all chambers.
 fn cases_of<'a>(alloc: Global, asked: &SweepAsked<'a>) -> Result<Vec<LineCase<'a>>, PriceError>
     ensures { IfOk result (λ cases. AreCases asked.now (length asked.now.instance.now.chambers) cases.items) }
@@ -55,7 +39,7 @@ fn cases_of<'a>(alloc: Global, asked: &SweepAsked<'a>) -> Result<Vec<LineCase<'a
     let count = asked.instance.chambers.as_slice().len() as u8;
     let mut cases = Vec::new(alloc);
     for index in 0..count {
-        append(&mut cases, case_of(asked, index))?;
+        append(&mut cases, asked.case_of(index))?;
     }
     Ok(cases)
 }
@@ -89,7 +73,7 @@ fn arrivals_of(
     lanes: &[Lane],
 ) -> Result<Vec<Arrivals>, PriceError>
     requires { AreLanesOf asked.now.instance.now (plain_cuts asked.now.instance.now asked.now.cuts.now) asked.now.prices.now (length asked.now.instance.now.chambers) lanes.now }
-    ensures { IfOk result (ArriveInFirst asked.now.instance.now (plain_cuts asked.now.instance.now asked.now.cuts.now) (length asked.now.instance.now.chambers)) }
+    ensures { IfOk result (λ all. ArriveInFirst asked.now.instance.now (plain_cuts asked.now.instance.now asked.now.cuts.now) (length asked.now.instance.now.chambers) all.items) }
 {
     let mut all = Vec::new(alloc);
     for place in 0..lanes.len() {
@@ -99,7 +83,7 @@ fn arrivals_of(
     Ok(all)
 }
 
-// A sweep that has ended: what was found, and where nothing was, that the goal is swept.
+// How a sweep has ended: where the goal is lower than that was asked for, a plan costs less.
 fn ended<'a>(alloc: Global, asked: &SweepAsked<'a>, made: &Made) -> Result<SweepEnd<'a>, PriceError>
     requires { IsSweptBy asked.now made.now.goal }
     ensures { IfOk result (IsSweepEnd asked.now) }
@@ -107,15 +91,11 @@ fn ended<'a>(alloc: Global, asked: &SweepAsked<'a>, made: &Made) -> Result<Sweep
     if made.goal == asked.goal {
         return Ok(SweepEnd::Swept(Swept::new(asked.instance, asked.cuts, asked.goal)));
     }
-    match made.found {
-        None => Err(PriceError::TooMany),
-        Some(number) => Ok(SweepEnd::Cheaper(plan_of(
-            alloc,
-            asked.instance,
-            &made.labels.items,
-            number,
-        )?)),
-    }
+    let Some(number) = made.found else {
+        return Err(PriceError::TooMany);
+    };
+    let lines = lines_to(alloc, asked.instance, &made.labels.items, number)?;
+    Ok(SweepEnd::Cheaper(judged(alloc, asked, lines)?))
 }
 
 // The sweep of a case by its chambers.
@@ -123,12 +103,12 @@ fn swept<'a>(
     alloc: Global,
     asked: &SweepAsked<'a>,
     case: &SweepCase,
-    lanes: Vec<Lane>,
+    lanes: &mut [Lane],
 ) -> Result<SweepOutcome<'a>, PriceError>
     requires arrive { AllArrive case.now.instance.now (cuts_of case.now) case.now.arrivals.items }
     requires instance { case.now.instance.now ≡ asked.now.instance.now }
     requires cuts { case.now.cuts.now ≡ asked.now.cuts.now }
-    requires lanes { AreLanes case.now lanes.items }
+    requires lanes { AreLanes case.now lanes.old }
     ensures { IfOk result (λ sweep. IsSweepEnd asked.now sweep.end) }
 {
     let mut sweeper = Sweeper {
@@ -155,7 +135,7 @@ pub fn sweep<'a>(
     ensures { IfOk result (λ sweep. IsSweepEnd asked.now sweep.end) }
 {
     let cases = cases_of(alloc, asked)?;
-    let lanes = lanes_of(alloc, asked, &cases, limits)?;
+    let mut lanes = lanes_of(alloc, asked, &cases, limits)?;
     let arrivals = arrivals_of(alloc, asked, &lanes)?;
     let case = SweepCase {
         instance: asked.instance,
@@ -164,5 +144,5 @@ pub fn sweep<'a>(
         arrivals,
         most: limits.labels,
     };
-    swept(alloc, asked, &case, lanes)
+    swept(alloc, asked, &case, &mut lanes)
 }
