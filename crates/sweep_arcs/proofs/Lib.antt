@@ -1,1 +1,2 @@
 pub mod GainLemmas
+pub mod ArrivalLemmas

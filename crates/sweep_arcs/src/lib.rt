@@ -9,6 +9,7 @@
 //! (`specs/Coming`).
 #![tactic(auto)]
 
+mod arrivals;
 mod asked;
 mod gains;
 mod lane;
