@@ -76,7 +76,9 @@ impl<'a> Lane<'a> {
     {
         match asked.way {
             Way::Up => self.up.arcs(self.alloc, self.case, &mut self.gains, asked),
-            Way::Down => self.down.arcs(self.alloc, self.case, &mut self.gains, asked),
+            Way::Down => self
+                .down
+                .arcs(self.alloc, self.case, &mut self.gains, asked),
         }
     }
 
