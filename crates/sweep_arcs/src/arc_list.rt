@@ -1,0 +1,10 @@
+//! Arcs of a chamber and way from a minute on.
+
+use sweep_labels::Arc;
+
+/// Arcs of all uncut groups of a chamber and way from a minute on whose worth is no more than a limit.
+#[derive(Drop)]
+pub(crate) struct ArcList {
+    pub(crate) limit: i64,
+    pub(crate) arcs: Vec<Arc>,
+}
