@@ -17,8 +17,8 @@ With `--open` it reads open dossiers, whose trees may have open leaves, and prin
                                              the status is 0 where both numbers are equal
 
 dossier_text.py reads the text, refutations.py says of decks which placements are legal and why ships share no lockage,
-times.py when a chamber is ready, and price_bound.py what a node reaches by prices. Here stand, in order: the plan, nodes
-and bounds, and last the check itself, which is short.
+times.py when a chamber is ready, price_bound.py what a node reaches by prices, and sweep.py whether a cost is swept. Here
+stand, in order: the plan, nodes and bounds, and last the check itself, which is short.
 """
 
 import argparse
@@ -27,10 +27,11 @@ import sys
 import time
 from collections import namedtuple
 
-from dossier_text import (BOUND, CLOSED_FORMS, FEW_SHIPS, FIRST_CUT, FIRST_PROBE, OPEN_FORMS, OPEN_LEAF, SPLIT, THROUGHPUT,
-                          Answer, Priced, read_dossier)
+from dossier_text import (BOUND, CLOSED_FORMS, FEW_SHIPS, FIRST_CUT, FIRST_PROBE, OPEN_FORMS, OPEN_LEAF, PRICE, SPLIT, THROUGHPUT,
+                          Answer, Named, read_dossier)
 from price_bound import PriceBound, hits_in
 from refutations import clash, deck_of, fits_alone, legal_placement, refutation_holds
+from sweep import is_swept
 from times import first_free, ready
 
 
@@ -143,7 +144,7 @@ class Bounds:
 # The check (formats.md, Checking order) ------------------------------------------------------------------------------
 
 REASONS = ("PlanIllegal CostWrong CutShape CutUnproved TreeShort TreeLong SplitFull BoundLow CutMisses ThroughputLow "
-           "ProbeWrong PricesShape PriceLow".split())
+           "ProbeWrong PricesShape PriceLow SweptWrong".split())
 
 
 def demand(holds, place, reason):
@@ -190,8 +191,11 @@ def check_tree(instance, cost, cuts, prices, marks):
             low = min(low, bounds.bound(node))
         elif mark == BOUND:
             demand(bounds.bound(node) >= cost, place, "BoundLow")
-        elif isinstance(mark, Priced):
+        elif isinstance(mark, Named) and mark.by == PRICE:
             demand(mark.number < len(prices) and priced.reaches(node, mark.number, cost), place, "PriceLow")
+        elif isinstance(mark, Named):
+            demand(mark.number < len(prices) and node.depth == 0
+                   and is_swept(instance, cuts, prices[mark.number], cost, told), place, "SweptWrong")
         elif mark == THROUGHPUT:
             demand(throughput >= cost, place, "ThroughputLow")
         elif mark < first_cut:

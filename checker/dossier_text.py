@@ -161,14 +161,17 @@ def read_json(data):
 
 # The line that begins a dossier's second part says what the object may hold. Its plan has at most so many lockages, and
 # a list of prices so many numbers, as the greater of the few ships and those of the instance.
-Form = namedtuple("Form", "keys reasons open_leaves has_prices ships", defaults=[FEW_SHIPS])
+Form = namedtuple("Form", "keys reasons open_leaves named ships", defaults=[FEW_SHIPS])
 KEYS = ("cost", "cuts", "plan", "tree")
 PRICED_KEYS = KEYS + ("prices",)
-CLOSED_FORMS = {(b"certificate",): Form(KEYS, range(5), False, False),
-                (b"certificate", b"2"): Form(KEYS, range(6), False, False),
-                (b"certificate", b"3"): Form(PRICED_KEYS, range(7), False, True)}
-OPEN_FORMS = {(b"certificate", b"open"): Form(KEYS, range(6), True, False),
-              (b"certificate", b"open", b"3"): Form(PRICED_KEYS, range(7), True, True)}
+SPLIT, BOUND, THROUGHPUT, OPEN_LEAF, PRICE, SWEEP, FIRST_PROBE = 0, 1, 2, 3, 4, 5, 10
+CLOSED_FORMS = {(b"certificate",): Form(KEYS, range(5), False, ()),
+                (b"certificate", b"2"): Form(KEYS, range(6), False, ()),
+                (b"certificate", b"3"): Form(PRICED_KEYS, range(7), False, (PRICE,)),
+                (b"certificate", b"4"): Form(PRICED_KEYS, range(7), False, (PRICE, SWEEP))}
+OPEN_FORMS = {(b"certificate", b"open"): Form(KEYS, range(6), True, ()),
+              (b"certificate", b"open", b"3"): Form(PRICED_KEYS, range(7), True, (PRICE,)),
+              (b"certificate", b"open", b"4"): Form(PRICED_KEYS, range(7), True, (PRICE, SWEEP))}
 
 Certificate = namedtuple("Certificate", PRICED_KEYS, defaults=[()])
 Cut = namedtuple("Cut", "chamber ships why")  # why: the number of its kind, and the rest
@@ -178,10 +181,9 @@ Spot = namedtuple("Spot", "x y rank moor")
 BYTE, WORD, LONG = 2**8, 2**32, 2**64
 AREA, ROW, COLUMN, CASE_TREE, SPOT_TREE, CLASH, BERTH_TREE = range(7)
 NAMED_SHIPS = {AREA: (0, 0), ROW: (1, 8), COLUMN: (1, 8), CLASH: (2, 2)}
-SPLIT, BOUND, THROUGHPUT, OPEN_LEAF, PRICE, FIRST_PROBE = 0, 1, 2, 3, 4, 10
 LAST_PROBE, FIRST_CUT = (33, 105), (100, 1_000)  # of other instances, and of large ones
 GREATEST_PRICE = 1_000_000
-Priced = namedtuple("Priced", "number")  # the mark of two numbers: PRICE, and which prices
+Named = namedtuple("Named", "by number")  # a mark of two numbers: PRICE or SWEEP, and which prices
 
 
 def whole(value, limit):
@@ -238,8 +240,8 @@ def read_plan(value, form):
 def read_tree(value, form):
     marks, numbers, is_large = [], iter(items(value)), form.ships > FEW_SHIPS
     for mark in numbers:
-        if form.has_prices and type(mark) is int and mark == PRICE:
-            mark = Priced(whole(next(numbers, None), 2**63))
+        if type(mark) is int and mark in form.named:
+            mark = Named(mark, whole(next(numbers, None), 2**63))
         else:
             whole(mark, FIRST_CUT[is_large] + 2**63)
             require(mark in (SPLIT, BOUND, THROUGHPUT) or mark == OPEN_LEAF and form.open_leaves

@@ -1,10 +1,11 @@
-"""Dossiers made of ones that a program wrote: with price marks, and with another tree somewhere in their tree."""
+"""Dossiers made of ones that a program wrote: with price marks, with a swept root, and with another tree somewhere in their
+tree."""
 
 import json
 
 import texts
 from check_dossier import Bounds, Node, end_of
-from dossier_text import BOUND, FEW_SHIPS, FIRST_CUT, FIRST_PROBE, OPEN_LEAF, PRICE, SPLIT, THROUGHPUT, Priced
+from dossier_text import BOUND, FEW_SHIPS, FIRST_CUT, FIRST_PROBE, OPEN_LEAF, PRICE, SPLIT, SWEEP, THROUGHPUT, Named
 from price_bound import PriceBound
 
 
@@ -13,9 +14,9 @@ def written(instance, certificate, is_open, line):
     plan = [{"chamber": each.chamber, "ships": list(each.ships), "spots": [list(spot) for spot in each.spots],
              "start": each.start, "way": each.way} for each in certificate.plan]
     cuts = [{"chamber": cut.chamber, "ships": list(cut.ships), "why": [cut.why[0], *cut.why[1]]} for cut in certificate.cuts]
-    tree = [number for mark in certificate.tree for number in ([PRICE, mark.number] if isinstance(mark, Priced) else [mark])]
+    tree = [number for mark in certificate.tree for number in (list(mark) if isinstance(mark, Named) else [mark])]
     value = {"cost": certificate.cost, "cuts": cuts, "plan": plan, "tree": tree}
-    if line.endswith(b" 3"):
+    if line.endswith((b" 3", b" 4")):
         value["prices"] = list(certificate.prices)
     return texts.canonical(instance) + line + b"\n" + json.dumps(value, separators=(",", ":"), sort_keys=True).encode() + b"\n"
 
@@ -51,10 +52,16 @@ def priced(instance, certificate, is_open):
     while place < len(nodes):
         node, mark, behind = nodes[place]
         reached = [v for v in range(len(prices)) if bound.reaches(node, v, certificate.cost)]
-        tree.append(Priced(reached[0]) if reached else mark)
+        tree.append(Named(PRICE, reached[0]) if reached else mark)
         place = behind if reached else place + 1
     line = b"certificate open 3" if is_open else b"certificate 3"
     return written(instance, certificate._replace(prices=prices, tree=tree), is_open, line)
+
+
+def swept(instance, certificate):
+    """The dossier of the fourth version whose root a sweep ends, whether or not the cost is swept."""
+    prices = list(certificate.prices) or prices_of(instance, certificate.plan)
+    return written(instance, certificate._replace(prices=prices, tree=[Named(SWEEP, 0)]), False, b"certificate 4")
 
 
 def grafted(instance, certificate, is_open, line, dice):
@@ -67,7 +74,8 @@ def grafted(instance, certificate, is_open, line, dice):
     def leaf(node):
         missing, marks = bounds.missing(node), [BOUND, BOUND, THROUGHPUT] + [OPEN_LEAF] * is_open
         marks += [FIRST_PROBE + s for s in missing[:1]] + [first_cut + dice.below(len(certificate.cuts) + 1)]
-        marks += [Priced(dice.below(len(certificate.prices) + 1))] * 2 if line.endswith(b" 3") else []
+        named = {b" 3": [PRICE] * 2, b" 4": [PRICE] * 2 + [SWEEP] * 2}.get(line[-2:], [])
+        marks += [Named(by, dice.below(len(certificate.prices) + 1)) for by in named]
         return dice.pick(marks)
 
     is_split = bool(bounds.missing(node)) and dice.below(3) > 0

@@ -10,6 +10,7 @@ use Rattle.lock_rules.specs.Cut.{HitsNode}
 use Rattle.lock_rules.specs.Node.{Node}
 use Rattle.refute_rules.specs.Cuts.{Cut}
 use Rattle.price_rules.specs.Prices.{Reaches}
+use Rattle.sweep_rules.specs.Uncut.{IsSwept}
 use Rattle.closing_rules.specs.ListedPrices.{cut_in}
 use Rattle.closing_rules.specs.declared.grounds.Ground.{Ground}
 use Rattle.closing_rules.specs.declared.grounds.Ground.TheVariants as by
@@ -65,3 +66,5 @@ module _ (b : Book) (keeps : KeepsBook b) (states : KeepsStates b) where
       by_ground (by.Cut number) h = hit-cut number node.lines h
       by_ground (by.Price number) h =
           record { own = h.own; there = h.there; reached = subst (λ cuts. Reaches I cuts node.depth node.lines h.own (best_cost b)) (same-cuts I b.cuts) h.reached }
+      by_ground (by.Swept number) h =
+          record { root = h.root; own = h.own; there = h.there; swept = subst (λ cuts. IsSwept I cuts (best_cost b)) (same-cuts I b.cuts) h.swept }

@@ -130,3 +130,4 @@ module _ (b : Book) (states : KeepsStates b) (few_prices : length b.prices < 2 ^
           probed I.ships s I.limits.ship_count.1 (missing-known I k s (contains-times (missing_ships I k) s h.0))
       by_ground (by.Cut number) h = less-trans number (length b.cuts) (2 ^ 63) (slice_get_within b.cuts number h.cut h.there) few
       by_ground (by.Price number) h = less-trans number (length b.prices) (2 ^ 63) (slice_get_within b.prices number h.own h.there) few_prices
+      by_ground (by.Swept number) h = less-trans number (length b.prices) (2 ^ 63) (slice_get_within b.prices number h.own h.there) few_prices

@@ -13,7 +13,7 @@ use Rattle.book_core.specs.declared.reply.Reply.{Reply}
 use Rattle.book_core.specs.declared.reply.Reply.TheVariants as reply
 use Rattle.book_core.specs.declared.reply.Refusal.TheVariants as refusing
 use Rattle.book_core.specs.Keeps.{IsSound}
-use Rattle.book_core.specs.Replies.{told, IsFirstOf, Answers}
+use Rattle.book_core.specs.Replies.{told, IsFirstOf, Answers, IsShutAt, IsCheaper, IsShut}
 use Rattle.book_core.proofs.SoundLemmas.{step-sound}
 
 abbrev pub Out : Type 0
@@ -28,6 +28,17 @@ pick-false t a c e = ap (λ u. cond u a c) e
 -- no plan is looked at
 abbrev pub none : Option BrokenPlan
 none = None
+
+-- a number that has to be at least the best cost
+module _ (best n : ℕ) where
+  abbrev cheaper : Bool → Option (machine.Reply BrokenPlan)
+  cheaper t = cond t (Some (machine.Cheaper n best)) None
+
+  cheap-refused : n < best → cheaper_than {Break = BrokenPlan} best n ≡ Some (machine.Cheaper n best)
+  cheap-refused low = ap cheaper (lt-ltb n best low)
+
+  high-unrefused : best ≤ n → cheaper_than {Break = BrokenPlan} best n ≡ None
+  high-unrefused high = ap cheaper (le-ltb n best high)
 
 -- ---- an event that closes slot id so, unless it is refused
 
@@ -61,16 +72,18 @@ module _ (b : Book) (id : ℕ) (why : Ground) (e : Event) (refusal : Option (mac
     pub event-answers : (new : Book) → new ≡ closed b id why → Answers b e reply.Closed new
     event-answers new new_is = record { found = None; judged = unjudged; answer = machine.Closed; said = refl; same = event-shut ∙ ap (λ u. (u, machine.Closed)) (sym new_is) }
 
--- a number that has to be at least the best cost
-module _ (b : Book) (refusal : Option (machine.Reply BrokenPlan)) (n best : ℕ) (best_is : best ≡ best_cost b) (asked : refusal ≡ cheaper_than (best_cost b) n) where
-  abbrev test : Bool → Option (machine.Reply BrokenPlan)
-  test t = cond t (Some (machine.Cheaper n (best_cost b))) None
+  -- where all that is left to ask is that a cost is at least the best one
+  module _ (may : may_close b id ≡ true) (cost : ℕ) (asked : refusal ≡ cheaper_than (best_cost b) cost) where
+    pub asked-sound : IsSound b → IsOwed e → best_cost b ≤ cost → IsSound (closed b id why)
+    asked-sound sound owed high = event-sound may (asked ∙ high-unrefused (best_cost b) cost high) sound owed
 
-  pub cheap-refused : n < best → refusal ≡ Some (machine.Cheaper n best)
-  cheap-refused low = asked ∙ ap test (lt-ltb n (best_cost b) (omega (arith, low, best_is))) ∙ ap (λ m. Some (machine.Cheaper n m)) (sym best_is)
-
-  pub high-unrefused : best ≤ n → refusal ≡ None
-  high-unrefused high = asked ∙ ap test (le-ltb n (best_cost b) (omega (arith, high, best_is)))
+    pub asked-answers : (r : Reply) (new : Book) → IsShutAt b id why cost r new → Answers b e r new
+    asked-answers r new (IsCheaper low r_is new_is) =
+        let refused : Reply = reply.Refused (refusing.Cheaper cost (best_cost b)) in
+        subst (λ r. Answers b e r new) (sym r_is)
+        (subst (Answers b e refused) (sym new_is) (event-refused refused (machine.Cheaper cost (best_cost b)) refl may (asked ∙ cheap-refused (best_cost b) cost low)))
+    asked-answers r new (IsShut high r_is new_is) =
+        subst (λ r. Answers b e r new) (sym r_is) (event-answers may (asked ∙ high-unrefused (best_cost b) cost high) new new_is)
 
 -- ---- a slot is closed by the book alone
 
@@ -80,6 +93,13 @@ module _ (b : Book) (id : ℕ) (why : Ground) where
 
   pub refused : (r : Reply) (o : machine.Reply BrokenPlan) → told r ≡ Some o → may_close b id ≡ true → refusal_of {Break = BrokenPlan} b id why ≡ Some o → Answers b (close id why) r b
   refused = event-refused b id why (close id why) (refusal_of b id why) refl tt
+
+  module _ (may : may_close b id ≡ true) (cost : ℕ) (asked : refusal_of {Break = BrokenPlan} b id why ≡ cheaper_than (best_cost b) cost) where
+    pub from-sound : IsSound b → best_cost b ≤ cost → IsSound (closed b id why)
+    from-sound sound = asked-sound b id why (close id why) (refusal_of b id why) refl tt may cost asked sound tt
+
+    pub from-answers : (r : Reply) (new : Book) → IsShutAt b id why cost r new → Answers b (close id why) r new
+    from-answers = asked-answers b id why (close id why) (refusal_of b id why) refl tt may cost asked
 
   module _ (may : may_close b id ≡ true) (unrefused : refusal_of {Break = BrokenPlan} b id why ≡ None) where
     pub shut-sound : IsSound b → IsSound (closed b id why)

@@ -11,6 +11,7 @@ pub mod BoundingLemmas
 pub mod SettleLemmas
 pub mod CloseLemmas
 pub mod ShowingLemmas
+pub mod SweepingLemmas
 pub mod MissingLemmas
 pub mod HandOverLemmas
 pub mod EventLemmas

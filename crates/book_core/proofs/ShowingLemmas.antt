@@ -21,16 +21,15 @@ use Rattle.book_rules.specs.Shown.{Shown, shown_cuts, IsShown, are_first_cuts}
 use Rattle.book_rules.specs.Step.{may_close, is_shown, price_refusal, cheaper_than, closed}
 use Rattle.lock_model.proofs.SameLemmas.{instance_decides}
 use Rattle.book_rules.proofs.SameLemmas.{same_node-decides}
-use Rattle.book_core.specs.declared.reply.Reply.TheVariants as reply
-use Rattle.book_core.specs.declared.reply.Refusal.TheVariants as refusing
+use Rattle.book_core.specs.declared.reply.Reply.{Reply}
 use Rattle.book_core.specs.Keeps.{IsSound}
-use Rattle.book_core.specs.Replies.{Answers}
+use Rattle.book_core.specs.Replies.{Answers, IsShutAt}
 use Rattle.book_core.specs.Telling.{told_cut, bare_cut, told_shown}
-use Rattle.book_core.proofs.CloseLemmas.{cheap-refused, high-unrefused, event-refused, event-sound, event-answers}
+use Rattle.book_core.proofs.CloseLemmas.{asked-sound, asked-answers}
 
 -- ---- what is claimed of a node is shown of it
 
-told-cuts : (I : Instance) (cuts : List ChamberCut) → shown_cuts I (map told_cut cuts) ≡ plain_cuts I cuts
+pub told-cuts : (I : Instance) (cuts : List ChamberCut) → shown_cuts I (map told_cut cuts) ≡ plain_cuts I cuts
 told-cuts I [] = refl
 told-cuts I (c ∷ cs) = ap (λ l. plain_cut I c ∷ l) (told-cuts I cs)
 
@@ -84,20 +83,15 @@ module _ (b : Book) (id number : ℕ) (shown : Shown) where
     pub not-shown : is_shown b id prices shown ≡ false → refusal ≡ Some machine.NotShown
     not-shown e = ap (price_refusal b id number shown) there ∙ ap tested e
 
-    pub was-shown : is_shown b id prices shown ≡ true → refusal ≡ cheaper_than (best_cost b) shown.cost
+    was-shown : is_shown b id prices shown ≡ true → refusal ≡ cheaper_than (best_cost b) shown.cost
     was-shown e = ap (price_refusal b id number shown) there ∙ ap tested e
 
-    module _ (shown_is : is_shown b id prices shown ≡ true) (may : may_close b id ≡ true) (cost best : ℕ) (cost_is : cost ≡ shown.cost) (best_is : best ≡ best_cost b) where
+    module _ (shown_is : is_shown b id prices shown ≡ true) (may : may_close b id ≡ true) (cost : ℕ) (cost_is : cost ≡ shown.cost) where
       asked : refusal ≡ cheaper_than (best_cost b) cost
       asked = was-shown shown_is ∙ ap (cheaper_than (best_cost b)) (sym cost_is)
 
-      pub shown-cheaper : cost < best → Answers b (close_price id number shown) (reply.Refused (refusing.Cheaper cost best)) b
-      shown-cheaper low =
-          event-refused b id (by.Price number) (close_price id number shown) refusal refl tt (reply.Refused (refusing.Cheaper cost best)) (machine.Cheaper cost best) refl may
-          (cheap-refused b refusal cost best best_is asked low)
+      pub shown-sound : IsShown shown → IsSound b → best_cost b ≤ cost → IsSound (closed b id (by.Price number))
+      shown-sound owed sound = asked-sound b id (by.Price number) (close_price id number shown) refusal refl tt may cost asked sound owed
 
-      pub shown-sound : best ≤ cost → IsShown shown → IsSound b → IsSound (closed b id (by.Price number))
-      shown-sound high owed sound = event-sound b id (by.Price number) (close_price id number shown) refusal refl tt may (high-unrefused b refusal cost best best_is asked high) sound owed
-
-      pub shown-answers : best ≤ cost → (new : Book) → new ≡ closed b id (by.Price number) → Answers b (close_price id number shown) reply.Closed new
-      shown-answers high = event-answers b id (by.Price number) (close_price id number shown) refusal refl tt may (high-unrefused b refusal cost best best_is asked high)
+      pub shown-answers : (r : Reply) (new : Book) → IsShutAt b id (by.Price number) cost r new → Answers b (close_price id number shown) r new
+      shown-answers = asked-answers b id (by.Price number) (close_price id number shown) refusal refl tt may cost asked

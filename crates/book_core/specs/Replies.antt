@@ -1,5 +1,5 @@
 -- What a method of the book does: the step of the book machine for its event, or nothing for want of memory.
-use Rattle.std.specs.Prelude.{ℕ, ◌≡◌, ◌↔◌, ⊤, true, Some, None, IsNone, IfSome}
+use Rattle.std.specs.Prelude.{ℕ, ◌≡◌, ◌<◌, ◌≤◌, ◌↔◌, ⊤, true, Some, None, IsNone, IfSome}
 use Rattle.std.specs.declared.option.Option.{Option}
 use Rattle.lock_model.specs.declared.instance.Instance.{Instance}
 use Rattle.lock_model.specs.declared.plan.Plan.{Plan}
@@ -7,10 +7,11 @@ use Rattle.lock_rules.specs.Plan.{IsLegal}
 use Rattle.mooring_rules.specs.declared.breaks.BrokenPlan.{BrokenPlan}
 use Rattle.mooring_rules.specs.PlanBreaks.{IsFirstBrokenPlan}
 use Rattle.master_branch.specs.Node.{IsNodeOf}
-use Rattle.book_rules.specs.Book.{Book, slot_at, is_held}
+use Rattle.closing_rules.specs.declared.grounds.Ground.{Ground}
+use Rattle.book_rules.specs.Book.{Book, slot_at, best_cost, is_held}
 use Rattle.book_rules.specs.Events as machine
 use Rattle.book_rules.specs.Events.{Event, replace}
-use Rattle.book_rules.specs.Step.{step}
+use Rattle.book_rules.specs.Step.{step, closed}
 use Rattle.book_core.specs.declared.reply.Grant.{Grant}
 use Rattle.book_core.specs.declared.reply.Grant.TheVariants as grant
 use Rattle.book_core.specs.declared.reply.Refusal.{Refusal}
@@ -38,6 +39,8 @@ refusal_told (refusing.Clashes id) = Some (machine.Clashes id)
 refusal_told refusing.OtherPrices = Some machine.OtherPrices
 refusal_told (refusing.NoPrices number) = Some (machine.NoPrices number)
 refusal_told refusing.NotShown = Some machine.NotShown
+refusal_told refusing.NotRoot = Some machine.NotRoot
+refusal_told refusing.NotSwept = Some machine.NotSwept
 
 -- the machine's reply; none for want of memory
 abbrev pub told : Reply → Option (machine.Reply BrokenPlan)
@@ -68,6 +71,11 @@ pub record Answers (old : Book) (e : Event) (r : Reply) (new : Book) : Type 0 wh
   pub answer : machine.Reply BrokenPlan
   pub said : told r ≡ Some answer
   pub same : step (λ _ _. found) old e ≡ (new, answer)
+
+-- slot id is closed on this ground where this cost is at least the best one
+pub data IsShutAt (old : Book) (id : ℕ) (why : Ground) (cost : ℕ) (r : Reply) (new : Book) : Type 0 where
+  IsCheaper : cost < best_cost old → r ≡ reply.Refused (refusing.Cheaper cost (best_cost old)) → new ≡ old → IsShutAt old id why cost r new
+  IsShut : best_cost old ≤ cost → r ≡ reply.Closed → new ≡ closed old id why → IsShutAt old id why cost r new
 
 -- there was no memory, and the book is as it was
 pub record Wants (old : Book) (r : Reply) (new : Book) : Type 0 where

@@ -1,9 +1,9 @@
--- What is shown beside a book, as the book machine sees it.
+-- What is shown or swept beside a book, as the book machine sees it.
 use Rattle.std.specs.Prelude.{map}
-use Rattle.price_terms.specs.Claim.{Claim}
+use Rattle.price_terms.specs.Claim.{Claim, SweptClaim}
 use Rattle.price_terms.specs.declared.cut.ChamberCut.{ChamberCut}
 use Rattle.refute_rules.specs.Cuts.{Cut}
-use Rattle.book_rules.specs.Shown.{Shown, ChamberCut as ToldCut}
+use Rattle.book_rules.specs.Shown.{Shown, Swept, ChamberCut as ToldCut}
 
 -- a cut without its deck and its refutation
 abbrev pub bare_cut : Cut → ChamberCut
@@ -17,6 +17,13 @@ told_shown claim = record {
   instance = claim.instance;
   node = claim.node;
   prices = claim.prices;
+  cuts = map told_cut claim.cuts;
+  cost = claim.cost;
+}
+
+abbrev pub told_swept : SweptClaim → Swept
+told_swept claim = record {
+  instance = claim.instance;
   cuts = map told_cut claim.cuts;
   cost = claim.cost;
 }

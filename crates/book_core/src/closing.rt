@@ -1,11 +1,11 @@
 //! The events that close a slot.
-ghost use Rattle.std.specs.Prelude.{◌≡◌, true, None};
+ghost use Rattle.std.specs.Prelude.{◌≡◌, ◌≤◌, true, None};
 ghost use Rattle.mooring_rules.specs.declared.breaks.BrokenPlan.{BrokenPlan};
 ghost use Rattle.book_rules.specs.Book.{best_cost};
 ghost use Rattle.book_rules.specs.Events.{close};
-ghost use Rattle.book_rules.specs.Step.{may_close, refusal_of, cheaper_than};
+ghost use Rattle.book_rules.specs.Step.{may_close, refusal_of, cheaper_than, closed};
 ghost use Rattle.book_core.specs.Keeps.{IsSound};
-ghost use Rattle.book_core.specs.Replies.{Answers};
+ghost use Rattle.book_core.specs.Replies.{Answers, IsShutAt};
 
 use crate::book::Book;
 use crate::reply::{Refusal, Reply};
@@ -13,6 +13,21 @@ use book_rules::{Entry, SlotState};
 use closing_rules::Ground;
 
 impl Book {
+    // Closes a held or parked slot on this ground where this cost, which is all that is left to ask,
+    // is at least the best cost.
+    pub(crate) fn shut_at(&mut self, id: u32, why: Ground, cost: u64) -> Reply
+        requires held { may_close self.old id ≡ true }
+        requires sound { best_cost self.old ≤ cost → IsSound (closed self.old id why) }
+        ensures { IsShutAt self.old id why cost result self.new }
+    {
+        let best = self.best_cost();
+        if cost < best {
+            return Reply::Refused(Refusal::Cheaper(cost, best));
+        }
+        self.settle(id, SlotState::Closed(why), Entry::Close(id, why));
+        Reply::Closed
+    }
+
     // Closes a slot that may be closed so.
     fn shut(&mut self, id: u32, why: Ground) -> Reply
         requires held { may_close self.old id ≡ true }
@@ -32,11 +47,7 @@ impl Book {
         requires sound { IsSound self.old }
         ensures { Answers self.old (close id why) result self.new }
     {
-        let best = self.best_cost();
-        if number < best {
-            return Reply::Refused(Refusal::Cheaper(number, best));
-        }
-        self.shut(id, why)
+        self.shut_at(id, why, number)
     }
 
     /// Closes a held or parked slot whose bound is at least the best cost. Refuses `NotHeld`, and
@@ -104,8 +115,19 @@ impl Book {
         Reply::Refused(Refusal::NotShown)
     }
 
+    // Refuses to close a slot where nothing was swept: `NotHeld`, then `NotSwept`.
+    fn close_unswept(&mut self, id: u32, number: u64) -> Reply
+        ensures { Answers self.old (close id (Ground.Swept number)) result self.new }
+    {
+        let _number = number;
+        if !self.may_close(id) {
+            return Reply::Refused(Refusal::NotHeld(id));
+        }
+        Reply::Refused(Refusal::NotSwept)
+    }
+
     /// Closes a slot as the method of its ground does. Refuses `NotShown` where it is to be closed by
-    /// prices, after `NotHeld`.
+    /// prices and `NotSwept` where by a sweep, after `NotHeld`.
     pub fn close(&mut self, id: u32, why: Ground) -> Reply
         ensures { Answers self.old (close id why) result self.new }
     {
@@ -115,6 +137,7 @@ impl Book {
             Ground::Probe(ship) => self.close_probe(id, ship),
             Ground::Cut(number) => self.close_cut(id, number),
             Ground::Price(number) => self.close_unshown(id, number),
+            Ground::Swept(number) => self.close_unswept(id, number),
         }
     }
 }

@@ -1,7 +1,7 @@
 //! The book of a search: the search tree with its open, held and closed slots, the cuts, the prices,
 //! the best plan, and the history of what was accepted.
 //!
-//! `open_book` opens a book with a legal plan. Its nine events are methods: each answers exactly what
+//! `open_book` opens a book with a legal plan. Its ten events are methods: each answers exactly what
 //! the step of the book machine answers for its event, and leaves the book that the step leaves; a
 //! refusal leaves the book as it was. `split`, `post`, `post_prices` and `replace` take memory, and
 //! take it all before they change anything; the other events take none. `verdict` says what the book
@@ -11,14 +11,14 @@
 //!
 //! - Fields, opening and readers: `book`, `opening`, `finding`, `summing` (the verdict).
 //! - Events: `taking`, `splitting`, `closing`, `showing` (what was shown beside the book, by prices),
-//!   `parking`, `posting`, `pricing`, `replacing`, `releasing`. What they change together: `moves`,
-//!   `growing`.
+//!   `sweeping` (what was swept beside it), `parking`, `posting`, `pricing`, `replacing`, `releasing`.
+//!   What they change together: `moves`, `growing`.
 //! - Tables by which no event walks all slots but `replace`: `hands` (the slot that each worker
 //!   holds, a `hand`), `back_list` (the returned slots, nine at most, by rising number), `waiting`
 //!   (the splits that may have a fresh child, by rising first child). A split that has none leaves
 //!   `waiting` when `take` meets it: one `take` may look at several splits, but all of them together
 //!   look at no more splits than there are takes and splits.
-//! - `cuts` has each cut whole, and as prices see it, by which `showing` compares.
+//! - `cuts` has each cut whole, and as prices see it, by which `showing` and `sweeping` compare.
 //! - Nodes aren't stored with the slots. A hand has its slot's node, and the bounds of the node's
 //!   children from the first probe of the ship that the node lacks first until the split. `path` has
 //!   the slots on the way from the root to the slot that was taken last, with their nodes: `take`
@@ -30,7 +30,7 @@
 //!
 //! Definitions: `book_rules` has the machine (`specs/Book`, `Events`, `Step`), the replay, the
 //! cover and the counts. Here `specs/Replies` says what it is that a method is a step, `Telling` what
-//! the machine sees of what was shown, `Keeps` what every book keeps, `Stored` which slots the stored
+//! the machine sees of what was shown or swept, `Keeps` what every book keeps, `Stored` which slots the stored
 //! ones are, `Tables`, `Hands`, `Path` and `Next` what the tables and the kept nodes say, `Laws` the
 //! law.
 #![tactic(auto)]
@@ -64,6 +64,7 @@ mod showing;
 mod splitting;
 mod stored_slot;
 mod summing;
+mod sweeping;
 mod taking;
 mod waiting;
 

@@ -43,8 +43,8 @@ pub enum Refusal {
     NotHeld(u32),
     /// The slot's node holds all ships.
     Whole(u32),
-    /// The bound, or the cost that was shown, which is below the best cost, and the best cost, in
-    /// minutes.
+    /// The bound, or the cost that was shown or swept, which is below the best cost, and the best
+    /// cost, in minutes.
     Cheaper(u64, u64),
     /// No cut has this number, or it hits no group of the node.
     NoHit(u64),
@@ -67,6 +67,10 @@ pub enum Refusal {
     /// What was shown isn't of the instance, of the slot's node, of the prices of the number and of
     /// the first cuts of the book; or nothing was shown.
     NotShown,
+    /// The slot isn't the root's, which alone a sweep closes.
+    NotRoot,
+    /// What was swept isn't of the instance and of the first cuts of the book; or nothing was swept.
+    NotSwept,
 }
 
 /// The reply to a taking, but for the node of a slot that was given, which is in the worker's hand

@@ -2,18 +2,16 @@
 //! compares, and works nothing out.
 ghost use Rattle.std.specs.Prelude.{◌≡◌, true, map, Some, None, slice_get, nat_eq, IfSome, IfNone};
 ghost use Rattle.std.specs.Cmp.Lexicographic.{pointwise};
-ghost use Rattle.book_rules.specs.Book.{slot_at, best_cost};
+ghost use Rattle.book_rules.specs.Book.{slot_at};
 ghost use Rattle.book_rules.specs.Events.{close_price};
 ghost use Rattle.book_rules.specs.Same.{same_node};
 ghost use Rattle.book_rules.specs.Shown.{are_first_cuts};
 ghost use Rattle.book_rules.specs.Step.{may_close, is_shown};
-ghost use Rattle.book_core.specs.Keeps.{IsSound};
 ghost use Rattle.book_core.specs.Replies.{Answers};
 ghost use Rattle.book_core.specs.Telling.{told_cut, told_shown};
 
 use crate::book::Book;
 use crate::reply::{Refusal, Reply};
-use book_rules::{Entry, SlotState};
 use closing_rules::Ground;
 use master_branch::Node;
 use price_terms::{ChamberCut, Prices, Shown};
@@ -27,7 +25,7 @@ fn same_prices(one: &Prices, other: &Prices) -> bool
 
 impl Book {
     // The prices of this number; None exactly where there are none.
-    fn prices_of(&self, number: u64) -> Option<&Prices>
+    pub(crate) fn prices_of(&self, number: u64) -> Option<&Prices>
         ensures some { IfSome result (λ prices. slice_get self.now.prices number ≡ Some prices.now) }
         ensures none { IfNone result (slice_get self.now.prices number ≡ None) }
     {
@@ -35,7 +33,7 @@ impl Book {
     }
 
     // Whether the cuts are the first ones of the book.
-    fn has_first_cuts(&self, shown: &[ChamberCut]) -> bool
+    pub(crate) fn has_first_cuts(&self, shown: &[ChamberCut]) -> bool
         ensures { result ≡ are_first_cuts (map told_cut shown.now) self.now.cuts }
     {
         self.cuts.are_first(shown)
@@ -70,24 +68,6 @@ impl Book {
         self.has_first_cuts(shown.cuts())
     }
 
-    // Closes a held or parked slot by the prices of this number, of which so much was shown, where
-    // the cost that was shown is at least the best cost.
-    fn shut_shown(&mut self, id: u32, number: u64, shown: &Shown) -> Reply
-        requires held { may_close self.old id ≡ true }
-        requires shown { (prices : _) × (slice_get self.old.prices number ≡ Some prices) × (is_shown self.old id prices (told_shown shown.now) ≡ true) }
-        requires sound { IsSound self.old }
-        ensures { Answers self.old (close_price id number (told_shown shown.now)) result self.new }
-    {
-        let cost = shown.cost();
-        let best = self.best_cost();
-        if cost < best {
-            return Reply::Refused(Refusal::Cheaper(cost, best));
-        }
-        let why = Ground::Price(number);
-        self.settle(id, SlotState::Closed(why), Entry::Close(id, why));
-        Reply::Closed
-    }
-
     /// Closes a held or parked slot by the prices of this number, of which it was shown that its node
     /// reaches a cost of at least the best cost by them and by the first cuts of the book. Refuses
     /// `NotHeld`, then `NoPrices` where no prices have this number, then `NotShown` where the
@@ -104,7 +84,7 @@ impl Book {
                 if !self.is_shown(id, prices, shown) {
                     return Reply::Refused(Refusal::NotShown);
                 }
-                self.shut_shown(id, number, shown)
+                self.shut_at(id, Ground::Price(number), shown.cost())
             }
             None => Reply::Refused(Refusal::NoPrices(number)),
         }

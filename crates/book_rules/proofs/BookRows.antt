@@ -20,8 +20,8 @@ use Rattle.lock_rules.specs.Node.{Node as TreeNode, root}
 use Rattle.book_rules.specs.Verdict.{verdict_of}
 use Rattle.book_rules.specs.Events.{Event, take, split, close, park, release}
 use Rattle.book_rules.specs.Events.{Reply, Node, Made, Closed, Parked, Released, Ended, Holds, Idle, Done, NotHeld, Cheaper, NoHit, OtherDeck, Absent}
-use Rattle.book_rules.specs.Events.{post, post_prices, close_price, replace, NodesSpent, Whole, Posted, Priced, Replaced, NotCheaper, OtherPrices, NoPrices, NotShown}
-use Rattle.book_rules.specs.Shown.{Shown}
+use Rattle.book_rules.specs.Events.{post, post_prices, close_price, close_swept, replace, NodesSpent, Whole, Posted, Priced, Replaced, NotCheaper, OtherPrices, NoPrices, NotShown, NotRoot, NotSwept}
+use Rattle.book_rules.specs.Shown.{Shown, Swept}
 use Rattle.book_rules.specs.Step.{step}
 use Rattle.book_rules.specs.Replay.{replay}
 use Rattle.closing_rules.specs.declared.grounds.Ground.TheVariants as by
@@ -160,3 +160,34 @@ row-priced : (ok : IsInstance chambers-narrow ships-narrow) →
     let b = after (three_nodes ok) (post_prices (8500 ∷ 8500 ∷ []) ∷ take 0 ∷ post narrow_cut ∷ close_price 0 0 (narrow_shown ok 8500 120) ∷ []) in
     ((slot_at b 0).state ≡ slot.Closed (by.Price 0)) × (b.history ≡ entry.Prices ∷ entry.Take 0 ∷ entry.Post ∷ entry.Close 0 (by.Price 0) ∷ [])
 row-priced ok = (refl, refl)
+
+-- closing the root by a sweep that the cut allows: what was swept is compared, and nothing is worked out
+abbrev narrow_swept : IsInstance chambers-narrow ships-narrow → ℕ → Swept
+narrow_swept ok cost = record { instance = narrow ok; cuts = record { chamber = 0; ships = 0 ∷ 1 ∷ [] } ∷ []; cost = cost }
+
+abbrev sweeping : IsInstance chambers-narrow ships-narrow → List Event
+sweeping ok =
+    close_swept 0 0 (narrow_swept ok 120) ∷ take 0 ∷ close_swept 0 0 (narrow_swept ok 120) ∷ post_prices (8500 ∷ 8500 ∷ []) ∷ close_swept 0 0 (narrow_swept ok 119)
+    ∷ post narrow_cut ∷ close_swept 0 0 (narrow_swept ok 119) ∷ close 0 (by.Swept 0) ∷ close_swept 0 0 (narrow_swept ok 121) ∷ close 0 (by.Swept 0) ∷ take 0 ∷ []
+
+row-sweeping : (ok : IsInstance chambers-narrow ships-narrow) →
+    replies (three_nodes ok) (sweeping ok)
+    ≡ NotHeld 0 ∷ Node 0 root ∷ NoPrices 0 ∷ Priced 0 ∷ NotSwept ∷ Posted 0 ∷ Cheaper 119 120 ∷ NotSwept ∷ Closed ∷ NotHeld 0 ∷ Done ∷ []
+row-sweeping ok = refl
+
+-- a node below the root isn't closed so, and neither is the root of an instance that is wider
+row-below : (ok : IsInstance chambers-narrow ships-narrow) →
+    replies (three_nodes ok) (take 0 ∷ split 0 ∷ take 0 ∷ close_swept 1 0 (narrow_swept ok 120) ∷ []) ≡ Node 0 root ∷ Made 1 ∷ Node 1 first_alone ∷ NotRoot ∷ []
+row-below ok = refl
+
+row-wider : (ok : IsInstance chambers-narrow ships-narrow) (wide : IsInstance chambers-side_by_side ships-side_by_side) →
+    replies (three_nodes ok) (post_prices (8500 ∷ 8500 ∷ []) ∷ take 0 ∷ close_swept 0 0 (record { instance = side_by_side wide; cuts = []; cost = 120 }) ∷ [])
+    ≡ Priced 0 ∷ Node 0 root ∷ NotSwept ∷ []
+row-wider ok wide = refl
+
+-- the slot is closed by it, the history names the number of the prices alone, and it is played again
+row-swept : (ok : IsInstance chambers-narrow ships-narrow) →
+    let b = after (three_nodes ok) (post_prices (8500 ∷ 8500 ∷ []) ∷ take 0 ∷ post narrow_cut ∷ close_swept 0 0 (narrow_swept ok 121) ∷ []) in
+    ((slot_at b 0).state ≡ slot.Closed (by.Swept 0)) × (b.history ≡ entry.Prices ∷ entry.Take 0 ∷ entry.Post ∷ entry.Close 0 (by.Swept 0) ∷ [])
+    × (replay unbroken b.case b.opening b.history b.cuts b.plans b.prices ≡ b) × (verdict_of b ≡ verdict.Optimal)
+row-swept ok = (refl, refl, refl, refl)

@@ -1,6 +1,7 @@
 -- Closing a slot: what is refused, and what is known where nothing is refused.
-use Rattle.std.proofs.Common.{◌≡◌, ℕ, List, ◌≤◌, refl, Bool, true, false, not, cond, Some, None, slice_get, nat_lt}
+use Rattle.std.proofs.Common.{◌≡◌, ℕ, List, ◌≤◌, refl, Bool, true, false, not, cond, Some, None, slice_get, nat_eq, nat_lt}
 use Rattle.std.proofs.lemmas.Bool.{false≢true, not-false}
+use Rattle.std.proofs.lemmas.Bool.Decides.{Decides-eqb}
 use Rattle.std.specs.Bool.{⊤}
 use Rattle.std.specs.declared.option.Option.{Option}
 use Rattle.list_laws.proofs.Variants.{some-not_none}
@@ -12,12 +13,12 @@ use Rattle.closing_rules.specs.declared.grounds.Ground.{Ground}
 use Rattle.closing_rules.specs.declared.grounds.Ground.TheVariants as by
 use Rattle.closing_rules.specs.Grounds.{IsClosedBy}
 use Rattle.book_rules.specs.Book.{Book, slot_at, best_cost}
-use Rattle.closing_rules.specs.ListedPrices.{IsPricedBy}
-use Rattle.book_rules.specs.Events.{Reply, is_acceptance, Cheaper, NoHit, Absent, NoPrices, NotShown}
-use Rattle.book_rules.specs.Shown.{Shown, IsShown}
+use Rattle.closing_rules.specs.ListedPrices.{IsPricedBy, IsSweptBy}
+use Rattle.book_rules.specs.Events.{Reply, is_acceptance, Cheaper, NoHit, Absent, NoPrices, NotShown, NotRoot, NotSwept}
+use Rattle.book_rules.specs.Shown.{Shown, IsShown, Swept, IsSweptCost}
 use Rattle.book_rules.specs.States.{IsHitBy, cuts_in}
 use Rattle.book_rules.specs.Step
-use Rattle.book_rules.proofs.ShownLemmas.{shown-holds}
+use Rattle.book_rules.proofs.ShownLemmas.{shown-holds, swept-held}
 use Rattle.book_rules.proofs.TestLemmas.{not-below, has_number-decides, is_node_hit-decides}
 
 -- nothing, or a refusal
@@ -31,7 +32,9 @@ module _ (b : Book) (id : ℕ) where
 
   -- slot id may be closed so
   abbrev pub MayCloseBy : Ground → Type 0
-  MayCloseBy why = IsClosedBy I (IsHitBy I b.cuts) (IsPricedBy I (cuts_in I b.cuts) b.prices) (best_cost b) (slot_at b id).bound (slot_at b id).node.depth (slot_at b id).node.lines why
+  MayCloseBy why =
+      IsClosedBy I (IsHitBy I b.cuts) (IsPricedBy I (cuts_in I b.cuts) b.prices) (IsSweptBy I (cuts_in I b.cuts) b.prices)
+      (best_cost b) (slot_at b id).bound (slot_at b id).node.depth (slot_at b id).node.lines why
 
   hit-by : (number : ℕ) (o : Option Cut) → slice_get b.cuts number ≡ o → Step.hits_in b id o ≡ true → IsHitBy I b.cuts number (slot_at b id).node.lines
   hit-by number None e hit = absurd (false≢true hit)
@@ -51,10 +54,20 @@ module _ (b : Book) (id : ℕ) where
     may-refuse (by.Probe s) = refuse_or (not (Step.lacks_ship b id s)) (Absent s) (Step.cheaper_than (best_cost b) (Step.probe_at b id s)) refl (cheaper-refuses (Step.probe_at b id s))
     may-refuse (by.Cut number) = refuse_or (not (Step.hits_in b id (slice_get b.cuts number))) (NoHit number) None refl tt
     may-refuse (by.Price number) = refl
+    may-refuse (by.Swept number) = refl
 
     pub may-refuse_price : (number : ℕ) (shown : Shown) (o : Option (List ℕ)) → MayRefuse {Break = Break} (Step.price_refusal b id number shown o)
     may-refuse_price number shown None = refl
     may-refuse_price number shown (Some prices) = refuse_or (not (Step.is_shown b id prices shown)) NotShown (Step.cheaper_than (best_cost b) shown.cost) refl (cheaper-refuses shown.cost)
+
+    swept-refuses : (number : ℕ) (swept : Swept) (o : Option (List ℕ)) → MayRefuse {Break = Break} (Step.sweep_by_prices b number swept o)
+    swept-refuses number swept None = refl
+    swept-refuses number swept (Some prices) =
+        refuse_or (not (Step.is_swept b swept)) NotSwept (Step.cheaper_than (best_cost b) swept.cost) refl (cheaper-refuses swept.cost)
+
+    pub may-refuse_sweep : (number : ℕ) (swept : Swept) (o : Option (List ℕ)) → MayRefuse {Break = Break} (Step.sweep_refusal b id number swept o)
+    may-refuse_sweep number swept o =
+        refuse_or (not (nat_eq (slot_at b id).node.depth 0)) NotRoot (Step.sweep_by_prices b number swept o) refl (swept-refuses number swept o)
 
   module _ {Break : Type 0} where
     none-of : (t : Bool) (r : Reply Break) (o : Option (Reply Break)) → cond t (Some r) o ≡ None → (t ≡ false) × (o ≡ None)
@@ -75,6 +88,7 @@ module _ (b : Book) (id : ℕ) where
         let hit = Step.hits_in b id (slice_get b.cuts number) in
         hit-by number (slice_get b.cuts number) refl (not-false hit (none-of (not hit) (NoHit number) None e).0)
     unrefused-may (by.Price number) e = absurd (some-not_none NotShown e)
+    unrefused-may (by.Swept number) e = absurd (some-not_none NotSwept e)
 
     -- where what was shown isn't refused, slot id may be closed by the prices
     pub shown-may : (number : ℕ) (shown : Shown) → IsShown shown → (o : Option (List ℕ)) → slice_get b.prices number ≡ o → Step.price_refusal {Break = Break} b id number shown o ≡ None → MayCloseBy (by.Price number)
@@ -83,3 +97,19 @@ module _ (b : Book) (id : ℕ) where
         let own = Step.is_shown b id prices shown in
         let both = none-of (not own) NotShown (Step.cheaper_than (best_cost b) shown.cost) e in
         shown-holds b id number prices there shown reached (not-false own both.0) (none-cheaper shown.cost both.1)
+
+    by_prices-may : (number : ℕ) (swept : Swept) → IsSweptCost swept → (slot_at b id).node.depth ≡ 0 → (o : Option (List ℕ)) → slice_get b.prices number ≡ o
+        → Step.sweep_by_prices {Break = Break} b number swept o ≡ None → MayCloseBy (by.Swept number)
+    by_prices-may number swept holds root None there e = absurd (some-not_none (NoPrices number) e)
+    by_prices-may number swept holds root (Some prices) there e =
+        let own = Step.is_swept b swept in
+        let both = none-of (not own) NotSwept (Step.cheaper_than (best_cost b) swept.cost) e in
+        swept-held b id number prices there root swept holds (not-false own both.0) (none-cheaper swept.cost both.1)
+
+    -- where what was swept isn't refused, slot id may be closed by it
+    pub swept-may : (number : ℕ) (swept : Swept) → IsSweptCost swept → Step.sweep_refusal {Break = Break} b id number swept (slice_get b.prices number) ≡ None
+        → MayCloseBy (by.Swept number)
+    swept-may number swept holds e =
+        let root = nat_eq (slot_at b id).node.depth 0 in
+        let both = none-of (not root) NotRoot (Step.sweep_by_prices b number swept (slice_get b.prices number)) e in
+        by_prices-may number swept holds ((Decides-eqb (slot_at b id).node.depth 0).0 (not-false root both.0)) (slice_get b.prices number) refl both.1

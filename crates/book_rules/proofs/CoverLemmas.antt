@@ -27,7 +27,7 @@ use Rattle.book_rules.specs.declared.book.Entry.{Entry}
 use Rattle.book_rules.specs.declared.book.Entry.TheVariants as entry
 use Rattle.book_rules.specs.Tests.{has_clash, is_own_cut}
 use Rattle.book_rules.specs.Book.{Case, Slot, Book, no_slot, slot_at, best_cost, bound_at, new_slot, opening_book, is_fresh, is_back, is_held, is_held_by, is_parked, is_live, first_slot, group_at}
-use Rattle.book_rules.specs.Events.{Event, Reply, IsOwed, take, split, close, post, post_prices, close_price, park, replace, release}
+use Rattle.book_rules.specs.Events.{Event, Reply, IsOwed, take, split, close, post, post_prices, close_price, close_swept, park, replace, release}
 use Rattle.book_rules.specs.Events.{Replaced, Ended, NodesSpent, NotHeld, Whole, OtherDeck, OtherPrices, NotCheaper, Clashes}
 use Rattle.book_rules.specs.NextSlot
 use Rattle.book_rules.specs.Step
@@ -36,10 +36,9 @@ use Rattle.closing_rules.specs.ProvedCuts.{CertCut, IsProved}
 use Rattle.closing_rules.specs.Laws.{TreeLaws}
 use Rattle.price_rules.specs.Prices.{CutHolds}
 use Rattle.closing_rules.specs.ListedPrices.{ArePrices, AreShapedPrices, cut_in}
-use Rattle.book_rules.specs.Shown.{Shown, IsShown}
 use Rattle.book_rules.specs.States.{IsHitBy, cuts_in}
 use Rattle.book_rules.proofs.TestLemmas.{is_own_cut-decides}
-use Rattle.book_rules.proofs.ClosingLemmas.{MayCloseBy, unrefused-may, shown-may}
+use Rattle.book_rules.proofs.ClosingLemmas.{MayCloseBy, unrefused-may, shown-may, swept-may}
 
 pub all-got : {X : Type 0} (P : X → Type 0) (xs : List X) (k : ℕ) (x : X) → All P xs → slice_get xs k ≡ Some x → P x
 all-got P [] k x a e = absurd (none-some x e)
@@ -266,15 +265,13 @@ module _ {Break : Type 0} (broken : Instance → Plan → Option Break) (sound :
   closed-dead id (by.Price number) h P c known under =
       let low = laws.price (cuts_in I b.cuts) (slot_at b id).node.depth (slot_at b id).node.lines h.own (best_cost b) cuts-hold h.reached P c.0 under in
       omega (arith, low, c.1)
+  closed-dead id (by.Swept number) h P c known under =
+      let low = laws.swept (cuts_in I b.cuts) (best_cost b) cuts-hold h.swept P c.0 in
+      omega (arith, low, c.1)
 
-  close-keeps : (id : ℕ) (why : Ground) (o : Option (Reply Break)) → Step.refusal_of b id why ≡ o → KeepsBook (Step.close_unless b id why o).0
-  close-keeps id why (Some r) e = old
-  close-keeps id why None e = state-keeps id (slot.Closed why) b.used b.ended (b.history ++ entry.Close id why ∷ []) (inr (closed-dead id why (unrefused-may b id why e)))
-
-  close_price-keeps : (id number : ℕ) (shown : Shown) → IsShown shown → (o : Option (Reply Break)) → Step.price_refusal b id number shown (slice_get b.prices number) ≡ o → KeepsBook (Step.close_unless b id (by.Price number) o).0
-  close_price-keeps id number shown reached (Some r) e = old
-  close_price-keeps id number shown reached None e =
-      state-keeps id (slot.Closed (by.Price number)) b.used b.ended (b.history ++ entry.Close id (by.Price number) ∷ []) (inr (closed-dead id (by.Price number) (shown-may b id number shown reached (slice_get b.prices number) refl e)))
+  close-keeps : (id : ℕ) (why : Ground) (o : Option (Reply Break)) → (o ≡ None → MayCloseBy b id why) → KeepsBook (Step.close_unless b id why o).0
+  close-keeps id why (Some r) may = old
+  close-keeps id why None may = state-keeps id (slot.Closed why) b.used b.ended (b.history ++ entry.Close id why ∷ []) (inr (closed-dead id why (may refl)))
 
   -- ---- splitting
 
@@ -357,7 +354,7 @@ module _ {Break : Type 0} (broken : Instance → Plan → Option Break) (sound :
       keep_or whole (Whole id) (Step.split_slot b id) (λ f.
       split-keeps id (held-known b.slots id (not-false (is_held (slot_at b id).state) e)) (leb-false (length I.ships) (slot_at b id).node.depth f)))
   event-keeps (close id why) owed =
-      keep_or (not (Step.may_close b id)) (NotHeld id) (Step.close_unless b id why (Step.refusal_of b id why)) (λ e. close-keeps id why (Step.refusal_of b id why) refl)
+      keep_or (not (Step.may_close b id)) (NotHeld id) (Step.close_unless b id why (Step.refusal_of b id why)) (λ e. close-keeps id why (Step.refusal_of b id why) (unrefused-may b id why))
   event-keeps (post cut) owed =
       keep_or (not (is_own_cut I cut)) OtherDeck (Step.posted b cut) (λ e. posted-keeps cut owed (not-false (is_own_cut I cut) e))
   event-keeps (post_prices prices) owed =
@@ -365,7 +362,12 @@ module _ {Break : Type 0} (broken : Instance → Plan → Option Break) (sound :
       keep_or (not shaped) OtherPrices (Step.priced b prices) (λ e. priced-keeps prices owed (not-false shaped e))
   event-keeps (close_price id number shown) owed =
       let refusal = Step.price_refusal b id number shown (slice_get b.prices number) in
-      keep_or (not (Step.may_close b id)) (NotHeld id) (Step.close_unless b id (by.Price number) refusal) (λ e. close_price-keeps id number shown owed refusal refl)
+      keep_or (not (Step.may_close b id)) (NotHeld id) (Step.close_unless b id (by.Price number) refusal) (λ e.
+      close-keeps id (by.Price number) refusal (shown-may b id number shown owed (slice_get b.prices number) refl))
+  event-keeps (close_swept id number swept) owed =
+      let refusal = Step.sweep_refusal b id number swept (slice_get b.prices number) in
+      keep_or (not (Step.may_close b id)) (NotHeld id) (Step.close_unless b id (by.Swept number) refusal) (λ e.
+      close-keeps id (by.Swept number) refusal (swept-may b id number swept owed))
   event-keeps (park id c p deck turns) owed =
       keep_or (not (is_held (slot_at b id).state)) (NotHeld id) (Step.park_group b id c p deck turns (group_at (slot_at b id).node c p)) (λ e. park_group-keeps id c p deck turns (group_at (slot_at b id).node c p))
   event-keeps (replace plan) owed = replace_by-keeps plan (broken I plan) refl

@@ -22,14 +22,13 @@ use Rattle.book_rules.specs.declared.book.SlotState.{SlotState}
 use Rattle.book_rules.specs.declared.book.SlotState.TheVariants as slot
 use Rattle.book_rules.specs.Tests.{same_deck, has_clash, is_own_cut}
 use Rattle.book_rules.specs.Book.{Slot, Book, no_slot, slot_at, best_cost, first_slot, has_slot, is_back, is_held, is_held_by, is_parked, group_at, ships_at, no_group}
-use Rattle.book_rules.specs.Events.{Event, Reply, IsOwed, is_acceptance, take, split, close, post, post_prices, close_price, park, replace, release}
+use Rattle.book_rules.specs.Events.{Event, Reply, IsOwed, is_acceptance, take, split, close, post, post_prices, close_price, close_swept, park, replace, release}
 use Rattle.book_rules.specs.Events.{Replaced, Ended, NodesSpent, Idle, Done, NotHeld, Whole, OtherDeck, OtherPrices, NotCheaper, Clashes}
 use Rattle.book_rules.specs.NextSlot.{next_fresh}
 use Rattle.book_rules.specs.Step
 use Rattle.closing_rules.specs.ListedPrices.{ArePrices, AreShapedPrices}
-use Rattle.book_rules.specs.Shown.{Shown, IsShown}
 use Rattle.book_rules.specs.States.{Tells}
-use Rattle.book_rules.proofs.ClosingLemmas.{MayRefuse, may-refuse, may-refuse_price, unrefused-may, shown-may}
+use Rattle.book_rules.proofs.ClosingLemmas.{MayRefuse, may-refuse, may-refuse_price, may-refuse_sweep, unrefused-may, shown-may, swept-may}
 use Rattle.book_rules.proofs.CoverLemmas.{held-known}
 use Rattle.book_rules.proofs.TestLemmas.{same_deck-decides, HasNoClash-test, is_own_cut-decides}
 use Rattle.book_rules.specs.Cover.{IsOwnCut}
@@ -148,18 +147,13 @@ module _ {Break : Type 0} (broken : Instance → Plan → Option Break) (b : Boo
   from_state id (slot.Parked c p) is e = (FromParked c p, record { known = state-known b id (slot.Parked c p) is (λ f. true≢false (ap is_parked f)); is = is })
   from_state id _ is e = absurd (true≢false (sym e))
 
-  close-move : (id : ℕ) (why : Ground) → Step.may_close b id ≡ true → (o : Option (Reply Break)) → Step.refusal_of b id why ≡ o → MayRefuse o → Is (close id why) (Step.close_unless b id why o)
-  close-move id why may (Some r) e refuses = Stays refuses refl
-  close-move id why may None e refuses =
+  -- an event that closes slot id so, unless it is refused
+  close-move : (e : Event) (id : ℕ) (why : Ground) → Step.may_close b id ≡ true → (o : Option (Reply Break)) → MayRefuse o
+      → (o ≡ None → TellsAt b id (slot.Closed why)) → Is e (Step.close_unless b id why o)
+  close-move e id why may (Some r) refuses tells = Stays refuses refl
+  close-move e id why may None refuses tells =
       let old = from_state id (slot_at b id).state refl may in
-      Closes (slot_at b id).state why id old.0 old.1 (unrefused-may b id why e) refl
-
-  close_price-move : (id number : ℕ) (shown : Shown) → IsShown shown → Step.may_close b id ≡ true → (o : Option (Reply Break)) → Step.price_refusal b id number shown (slice_get b.prices number) ≡ o → MayRefuse o
-      → Is (close_price id number shown) (Step.close_unless b id (by.Price number) o)
-  close_price-move id number shown reached may (Some r) e refuses = Stays refuses refl
-  close_price-move id number shown reached may None e refuses =
-      let old = from_state id (slot_at b id).state refl may in
-      Closes (slot_at b id).state (by.Price number) id old.0 old.1 (shown-may b id number shown reached (slice_get b.prices number) refl e) refl
+      Closes (slot_at b id).state why id old.0 old.1 (tells refl) refl
 
   -- ---- parking
 
@@ -207,7 +201,7 @@ module _ {Break : Type 0} (broken : Instance → Plan → Option Break) (b : Boo
   each-move (close id why) owed =
       let refusal = Step.refusal_of b id why in
       refuse_or (close id why) (not (Step.may_close b id)) (NotHeld id) (Step.close_unless b id why refusal) refl (λ f.
-      close-move id why (not-false (Step.may_close b id) f) refusal refl (may-refuse b id Break why))
+      close-move (close id why) id why (not-false (Step.may_close b id) f) refusal (may-refuse b id Break why) (unrefused-may b id why))
   each-move (post cut) owed =
       refuse_or (post cut) (not (is_own_cut I cut)) OtherDeck (Step.posted b cut) refl (λ f.
       Posts cut refl owed ((is_own_cut-decides I cut).0 (not-false (is_own_cut I cut) f)) refl)
@@ -218,7 +212,13 @@ module _ {Break : Type 0} (broken : Instance → Plan → Option Break) (b : Boo
   each-move (close_price id number shown) owed =
       let refusal = Step.price_refusal b id number shown (slice_get b.prices number) in
       refuse_or (close_price id number shown) (not (Step.may_close b id)) (NotHeld id) (Step.close_unless b id (by.Price number) refusal) refl (λ f.
-      close_price-move id number shown owed (not-false (Step.may_close b id) f) refusal refl (may-refuse_price b id Break number shown (slice_get b.prices number)))
+      close-move (close_price id number shown) id (by.Price number) (not-false (Step.may_close b id) f) refusal (may-refuse_price b id Break number shown (slice_get b.prices number))
+      (shown-may b id number shown owed (slice_get b.prices number) refl))
+  each-move (close_swept id number swept) owed =
+      let refusal = Step.sweep_refusal b id number swept (slice_get b.prices number) in
+      refuse_or (close_swept id number swept) (not (Step.may_close b id)) (NotHeld id) (Step.close_unless b id (by.Swept number) refusal) refl (λ f.
+      close-move (close_swept id number swept) id (by.Swept number) (not-false (Step.may_close b id) f) refusal (may-refuse_sweep b id Break number swept (slice_get b.prices number))
+      (swept-may b id number swept owed))
   each-move (park id c p deck turns) owed =
       refuse_or (park id c p deck turns) (not (is_held (slot_at b id).state)) (NotHeld id) (Step.park_group b id c p deck turns (group_at (slot_at b id).node c p)) refl (λ f.
       let held = held-at b id (not-false (is_held (slot_at b id).state) f) in

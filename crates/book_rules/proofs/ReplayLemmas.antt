@@ -1,5 +1,5 @@
 -- A book is the replay of its history, after every list of events.
-use Rattle.std.proofs.Common.{◌≡◌, ℕ, zero, suc, List, [], ◌∷◌, ◌++◌, length, inl, inr, refl, sym, ap, ◌∙◌, subst, arith, Bool, true, false, not, cond, Some, None, slice_index_or, slice_get, nat_lt, nat_le, ◌&&◌, length-append}
+use Rattle.std.proofs.Common.{◌≡◌, ℕ, zero, suc, List, [], ◌∷◌, ◌++◌, length, inl, inr, refl, sym, ap, ◌∙◌, subst, arith, Bool, true, false, not, cond, Some, None, slice_index_or, slice_get, nat_eq, nat_lt, nat_le, ◌&&◌, length-append}
 use Rattle.std.proofs.lemmas.Bool.{and_parts, false≢true}
 use Rattle.std.proofs.lemmas.Option.{same_Some, none-some}
 use Rattle.std.specs.declared.option.Option.{Option}
@@ -17,17 +17,17 @@ use Rattle.book_rules.specs.declared.book.Entry.{Entry}
 use Rattle.book_rules.specs.declared.book.Entry.TheVariants as entry
 use Rattle.book_rules.specs.Tests.{same_deck, has_clash}
 use Rattle.book_rules.specs.Book.{Case, Book, slot_at, best_cost, is_held, group_at, ships_at, no_group, opening_book}
-use Rattle.book_rules.specs.Events.{Event, Reply, is_acceptance, take, split, close, post, post_prices, close_price, park, replace, release}
-use Rattle.book_rules.specs.Events.{NotHeld, OtherDeck, Clashes, Cheaper, NotShown}
+use Rattle.book_rules.specs.Events.{Event, Reply, is_acceptance, take, split, close, post, post_prices, close_price, close_swept, park, replace, release}
+use Rattle.book_rules.specs.Events.{NotHeld, OtherDeck, Clashes, Cheaper, NotShown, NotRoot, NotSwept}
 use Rattle.closing_rules.specs.declared.grounds.Ground.{Ground}
 use Rattle.closing_rules.specs.declared.grounds.Ground.TheVariants as by
-use Rattle.book_rules.specs.Shown.{Shown}
+use Rattle.book_rules.specs.Shown.{Shown, Swept}
 use Rattle.book_rules.specs.Step
-use Rattle.book_rules.specs.Replay.{own_shown, closing_of, replay_from, is_post, is_replace, is_pricing}
+use Rattle.book_rules.specs.Replay.{own_shown, own_swept, closing_of, replay_from, is_post, is_replace, is_pricing}
 pub use Rattle.book_rules.specs.Replay.{IsReplayed}
 use Rattle.book_rules.proofs.TestLemmas.{same_deck-decides}
-use Rattle.book_rules.proofs.ShownLemmas.{own-shown}
-use Rattle.book_rules.proofs.ClosingLemmas.{MayRefuse, may-refuse_price}
+use Rattle.book_rules.proofs.ShownLemmas.{own-shown, own-swept}
+use Rattle.book_rules.proofs.ClosingLemmas.{MayRefuse, may-refuse_price, may-refuse_sweep}
 use Rattle.book_rules.proofs.StepLemmas.{entry_of, cuts_of, plans_of, prices_of, IsAccepted, Refused, Accepted, each-step}
 
 -- an entry takes a cut, a plan or prices where its event has one
@@ -114,35 +114,65 @@ module _ {Break : Type 0} (broken : Instance → Plan → Option Break) where
   held-again b id true out own f good = refl
   held-again b id false out own f good = f good
 
-  -- ---- closing again by prices, with what the book itself says
+  -- ---- closing again by prices or by a sweep, with what the book itself says
 
   -- what isn't refused closes the slot
   unrefused-closed : (b : Book) (id : ℕ) (why : Ground) (o : Option (Reply Break)) → MayRefuse o → is_acceptance (Step.close_unless b id why o).1 ≡ true → (Step.close_unless b id why o).0 ≡ Step.closed b id why
   unrefused-closed b id why (Some r) refuses good = absurd (false≢true (sym refuses ∙ good))
   unrefused-closed b id why None refuses good = refl
 
+  -- a closing that was accepted, and another that isn't refused
+  unrefused-again : (b : Book) (id : ℕ) (why : Ground) (o own : Option (Reply Break)) → own ≡ None → MayRefuse o
+      → is_acceptance (Step.close_unless b id why o).1 ≡ true → (Step.close_unless b id why own).0 ≡ (Step.close_unless b id why o).0
+  unrefused-again b id why o own unrefused refuses good =
+      ap (λ o. (Step.close_unless {Break = Break} b id why o).0) unrefused ∙ sym (unrefused-closed b id why o refuses good)
+
+  -- the best cost isn't cheaper than itself
+  best-unrefused : (best : ℕ) → Step.cheaper_than {Break = Break} best best ≡ None
+  best-unrefused best =
+      let same : nat_lt best best ≡ false = elim (leb_tells (suc best) best) [ inl y ↦ absurd (omega (arith, y.1)) | inr n ↦ n.0 ] in
+      ap (λ t. cond t (Some (Cheaper best best)) None) same
+
   -- the book's own closing isn't refused
   own-unrefused : (b : Book) (id number : ℕ) (prices : List ℕ) → slice_get b.prices number ≡ Some prices → Step.price_refusal {Break = Break} b id number (own_shown b id number) (Some prices) ≡ None
   own-unrefused b id number prices there =
       let best = best_cost b in
-      let same : nat_lt best best ≡ false = elim (leb_tells (suc best) best) [ inl y ↦ absurd (omega (arith, y.1)) | inr n ↦ n.0 ] in
-      ap (λ t. cond (not t) (Some NotShown) (Step.cheaper_than best best)) (own-shown b id number prices there) ∙ ap (λ t. cond t (Some (Cheaper best best)) None) same
+      ap (λ t. cond (not t) (Some NotShown) (Step.cheaper_than best best)) (own-shown b id number prices there) ∙ best-unrefused best
+
+  own_swept-unrefused : (b : Book) (number : ℕ) (prices : List ℕ) → Step.sweep_by_prices {Break = Break} b number (own_swept b) (Some prices) ≡ None
+  own_swept-unrefused b number prices =
+      let best = best_cost b in
+      ap (λ t. cond (not t) (Some NotSwept) (Step.cheaper_than best best)) (own-swept b) ∙ best-unrefused best
 
   prices-again : (b : Book) (id number : ℕ) (shown : Shown) (o : Option (List ℕ)) → slice_get b.prices number ≡ o
       → is_acceptance (Step.close_unless {Break = Break} b id (by.Price number) (Step.price_refusal b id number shown o)).1 ≡ true
       → (Step.close_unless {Break = Break} b id (by.Price number) (Step.price_refusal b id number (own_shown b id number) o)).0 ≡ (Step.close_unless {Break = Break} b id (by.Price number) (Step.price_refusal b id number shown o)).0
   prices-again b id number shown None there good = refl
   prices-again b id number shown (Some prices) there good =
-      ap (λ o. (Step.close_unless {Break = Break} b id (by.Price number) o).0) (own-unrefused b id number prices there)
-      ∙ sym (unrefused-closed b id (by.Price number) (Step.price_refusal b id number shown (Some prices)) (may-refuse_price b id Break number shown (Some prices)) good)
+      unrefused-again b id (by.Price number) (Step.price_refusal b id number shown (Some prices)) (Step.price_refusal b id number (own_shown b id number) (Some prices))
+      (own-unrefused b id number prices there) (may-refuse_price b id Break number shown (Some prices)) good
 
-  -- closing by prices is refused where nothing was shown
-  unshown : (b : Book) (id : ℕ) (t : Bool) → is_acceptance (held_way b id t (b, NotShown)).1 ≡ true → ⊥
-  unshown b id true good = false≢true good
-  unshown b id false good = false≢true good
+  -- where it is known whether the slot is the root
+  abbrev root_way : Book → ℕ → Swept → Option (List ℕ) → Bool → Option (Reply Break)
+  root_way b number swept o t = cond (not t) (Some NotRoot) (Step.sweep_by_prices b number swept o)
+
+  sweep-again : (b : Book) (id number : ℕ) (swept : Swept) (o : Option (List ℕ)) (t : Bool) → MayRefuse (root_way b number swept o t)
+      → is_acceptance (Step.close_unless {Break = Break} b id (by.Swept number) (root_way b number swept o t)).1 ≡ true
+      → (Step.close_unless {Break = Break} b id (by.Swept number) (root_way b number (own_swept b) o t)).0 ≡ (Step.close_unless {Break = Break} b id (by.Swept number) (root_way b number swept o t)).0
+  sweep-again b id number swept o false refuses good = refl
+  sweep-again b id number swept None true refuses good = refl
+  sweep-again b id number swept (Some prices) true refuses good =
+      unrefused-again b id (by.Swept number) (Step.sweep_by_prices b number swept (Some prices)) (Step.sweep_by_prices b number (own_swept b) (Some prices))
+      (own_swept-unrefused b number prices) refuses good
+
+  -- a refusal is no acceptance, whether the slot is held or not
+  unaccepted : (b : Book) (id : ℕ) (r : Reply Break) (t : Bool) → is_acceptance r ≡ false → is_acceptance (held_way b id t (b, r)).1 ≡ true → ⊥
+  unaccepted b id r true refuses good = false≢true good
+  unaccepted b id r false refuses good = false≢true (sym refuses ∙ good)
 
   closing-again : (b : Book) (id : ℕ) (why : Ground) → is_acceptance (Step.step broken b (close id why)).1 ≡ true → after b (closing_of b id why) ≡ after b (close id why)
-  closing-again b id (by.Price number) good = absurd (unshown b id (not (Step.may_close b id)) good)
+  closing-again b id (by.Price number) good = absurd (unaccepted b id NotShown (not (Step.may_close b id)) refl good)
+  closing-again b id (by.Swept number) good = absurd (unaccepted b id NotSwept (not (Step.may_close b id)) refl good)
   closing-again b id by.Bound good = refl
   closing-again b id by.Throughput good = refl
   closing-again b id (by.Probe s) good = refl
@@ -160,6 +190,12 @@ module _ {Break : Type 0} (broken : Instance → Plan → Option Break) where
       (Step.close_unless b id (by.Price number) (Step.price_refusal b id number shown (slice_get b.prices number)))
       (Step.close_unless b id (by.Price number) (Step.price_refusal b id number (own_shown b id number) (slice_get b.prices number)))
       (prices-again b id number shown (slice_get b.prices number) refl) good
+  replay-one b (close_swept id number swept) good =
+      let prices = slice_get b.prices number in
+      held-again b id (not (Step.may_close b id))
+      (Step.close_unless b id (by.Swept number) (Step.sweep_refusal b id number swept prices))
+      (Step.close_unless b id (by.Swept number) (Step.sweep_refusal b id number (own_swept b) prices))
+      (sweep-again b id number swept prices (nat_eq (slot_at b id).node.depth 0) (may-refuse_sweep b id Break number swept prices)) good
   replay-one b (park id c p deck turns) good =
       held-again b id (not (is_held (slot_at b id).state))
       (Step.park_group b id c p deck turns (group_at (slot_at b id).node c p))

@@ -1,4 +1,4 @@
--- What was shown beside a book holds in it, and a book shows itself what it was closed by.
+-- What was shown or swept beside a book holds in it, and a book shows itself what it was closed by.
 use Rattle.std.proofs.Common.{◌≡◌, ℕ, zero, suc, ◌≤◌, List, [], ◌∷◌, map, All, Contains, refl, sym, subst, arith, true, ◌&&◌, Some, slice_get, slice_index_or, nat_eq}
 use Rattle.std.proofs.lemmas.Option.{same_Some, none-some}
 use Rattle.std.specs.Cmp.Lexicographic.{pointwise, bytes_decides}
@@ -8,15 +8,17 @@ use Rattle.std.proofs.lemmas.List.Elements.{All-cons, All-nil, All-weaker}
 use Rattle.lock_model.specs.declared.instance.Instance.{Instance}
 use Rattle.price_rules.specs.Prices.{Reaches}
 use Rattle.price_rules.proofs.ReachLemmas.{reached-stays}
+use Rattle.sweep_rules.specs.Uncut.{IsSwept}
+use Rattle.sweep_rules.proofs.SweptLemmas.{swept-stays}
 use Rattle.refute_rules.specs.Cuts.{Cut}
-use Rattle.closing_rules.specs.ListedPrices.{cut_in, IsPricedBy}
+use Rattle.closing_rules.specs.ListedPrices.{cut_in, IsPricedBy, IsSweptBy}
 use Rattle.book_rules.specs.Book.{Book, slot_at, best_cost}
 use Rattle.lock_rules.specs.Node.{Node}
 use Rattle.book_rules.specs.Same.{same_instance, same_node}
-use Rattle.book_rules.specs.Shown.{ChamberCut, Shown, shown_cuts, IsShown, chamber_cut, are_first_cuts}
+use Rattle.book_rules.specs.Shown.{ChamberCut, Shown, shown_cuts, IsShown, Swept, IsSweptCost, chamber_cut, are_first_cuts}
 use Rattle.book_rules.specs.States.{cuts_in}
-use Rattle.book_rules.specs.Step.{is_shown}
-use Rattle.book_rules.specs.Replay.{own_shown}
+use Rattle.book_rules.specs.Step.{is_shown, is_swept}
+use Rattle.book_rules.specs.Replay.{own_shown, own_swept}
 use Rattle.lock_model.proofs.SameLemmas.{instance_decides}
 use Rattle.book_rules.proofs.SameLemmas.{same_node-decides}
 
@@ -89,3 +91,28 @@ module _ (b : Book) (id number : ℕ) (prices : List ℕ) (there : slice_get b.p
       got [] k e = absurd (none-some prices e)
       got (x ∷ xs) zero e = same_Some x prices e
       got (x ∷ xs) (suc k) e = got xs k e
+
+-- ---- what is swept
+
+module _ (b : Book) where
+  -- what is swept by first cuts of the book is swept by all of them, and so is its best cost
+  swept-best : (swept : Swept) → IsSweptCost swept → is_swept b swept ≡ true → best_cost b ≤ swept.cost
+      → IsSwept b.case.instance (cuts_in b.case.instance b.cuts) (best_cost b)
+  swept-best swept holds e high =
+      let I = b.case.instance in
+      let both = and_parts (same_instance swept.instance I) (are_first_cuts swept.cuts b.cuts) e in
+      let moved : IsSwept I (shown_cuts I swept.cuts) swept.cost =
+      subst (λ J. IsSwept J (shown_cuts J swept.cuts) swept.cost) ((instance_decides swept.instance I).0 both.0) holds in
+      swept-stays I (shown_cuts I swept.cuts) (cuts_in I b.cuts) (first-among I swept.cuts b.cuts both.1) swept.cost (best_cost b) high moved
+
+  pub swept-held : (id number : ℕ) (prices : List ℕ) → slice_get b.prices number ≡ Some prices → (slot_at b id).node.depth ≡ 0
+      → (swept : Swept) → IsSweptCost swept → is_swept b swept ≡ true → best_cost b ≤ swept.cost
+      → IsSweptBy b.case.instance (cuts_in b.case.instance b.cuts) b.prices number (slot_at b id).node.depth (best_cost b)
+  swept-held id number prices there root swept holds e high =
+      record { root = root; own = prices; there = there; swept = swept-best swept holds e high }
+
+  -- what the book itself says is swept is of it
+  pub own-swept : is_swept b (own_swept b) ≡ true
+  own-swept =
+      let I = b.case.instance in
+      and_from (same_instance I I) (are_first_cuts (map chamber_cut b.cuts) b.cuts) ((instance_decides I I).1 refl) (own-first b.cuts)

@@ -19,6 +19,7 @@ use Rattle.lock_rules.specs.Node.{Node as TreeNode, root}
 use Rattle.book_rules.specs.Events.{Event, IsOwed}
 use Rattle.book_rules.specs.Step
 use Rattle.price_rules.proofs.ReachLemmas.{reached-stays}
+use Rattle.sweep_rules.proofs.SweptLemmas.{swept-stays}
 use Rattle.closing_rules.specs.ListedPrices.{cut_in}
 use Rattle.book_rules.specs.States.{cuts_in, Tells, IsTrueSlot, KeepsStates}
 use Rattle.book_rules.proofs.CoverLemmas.{all-set}
@@ -58,6 +59,9 @@ more-tells case cuts more prices cost node bound (slot.Closed (by.Cut number)) h
 more-tells case cuts more prices cost node bound (slot.Closed (by.Price number)) h =
     let I = case.instance in
     record { own = h.own; there = h.there; reached = reached-stays I (cuts_in I cuts) (cuts_in I (cuts ++ more)) (cuts-among I cuts more) node.depth node.lines h.own cost cost (omega arith) h.reached }
+more-tells case cuts more prices cost node bound (slot.Closed (by.Swept number)) h =
+    let I = case.instance in
+    record { root = h.root; own = h.own; there = h.there; swept = swept-stays I (cuts_in I cuts) (cuts_in I (cuts ++ more)) (cuts-among I cuts more) cost cost (omega arith) h.swept }
 more-tells case cuts more prices cost node bound (slot.Closed by.Bound) h = h
 more-tells case cuts more prices cost node bound (slot.Closed by.Throughput) h = h
 more-tells case cuts more prices cost node bound (slot.Closed (by.Probe s)) h = h
@@ -70,6 +74,8 @@ more-tells case cuts more prices cost node bound (slot.Split first) h = h
 -- with more prices
 priced-tells : (case : Case) (cuts : List Cut) (prices more : List (List ℕ)) (cost : ℕ) (node : TreeNode) (bound : ℕ) (state : SlotState) → Tells case cuts prices cost node bound state → Tells case cuts (prices ++ more) cost node bound state
 priced-tells case cuts prices more cost node bound (slot.Closed (by.Price number)) h = record { own = h.own; there = get-more prices more number h.own h.there; reached = h.reached }
+priced-tells case cuts prices more cost node bound (slot.Closed (by.Swept number)) h =
+    record { root = h.root; own = h.own; there = get-more prices more number h.own h.there; swept = h.swept }
 priced-tells case cuts prices more cost node bound (slot.Closed (by.Cut number)) h = h
 priced-tells case cuts prices more cost node bound (slot.Closed by.Bound) h = h
 priced-tells case cuts prices more cost node bound (slot.Closed by.Throughput) h = h
@@ -95,6 +101,9 @@ lower-tells case cuts prices cost lower less node bound (slot.Closed (by.Cut num
 lower-tells case cuts prices cost lower less node bound (slot.Closed (by.Price number)) fresh h =
     let I = case.instance in
     record { own = h.own; there = h.there; reached = reached-stays I (cuts_in I cuts) (cuts_in I cuts) (cuts-own I cuts) node.depth node.lines h.own cost lower less h.reached }
+lower-tells case cuts prices cost lower less node bound (slot.Closed (by.Swept number)) fresh h =
+    let I = case.instance in
+    record { root = h.root; own = h.own; there = h.there; swept = swept-stays I (cuts_in I cuts) (cuts_in I cuts) (cuts-own I cuts) cost lower less h.swept }
 lower-tells case cuts prices cost lower less node bound (slot.Closed by.Throughput) fresh h = omega (arith, h, less)
 lower-tells case cuts prices cost lower less node bound (slot.Closed (by.Probe s)) fresh h = (h.0, omega (arith, h.1, less))
 

@@ -10,14 +10,13 @@ use Rattle.book_rules.specs.declared.book.Entry.{Entry}
 use Rattle.book_rules.specs.Events.{Event, Reply, is_acceptance}
 use Rattle.book_rules.specs.declared.book.Entry.TheVariants as entry
 use Rattle.book_rules.specs.Book.{Book, slot_at, best_cost, first_slot, has_slot, is_back, is_held, is_held_by, group_at}
-use Rattle.book_rules.specs.Events.{take, split, close, post, post_prices, close_price, park, replace, release}
+use Rattle.book_rules.specs.Events.{take, split, close, post, post_prices, close_price, close_swept, park, replace, release}
 use Rattle.book_rules.specs.Events.{Node, Made, Closed, Parked, Replaced, Released, Ended, NodesSpent, Idle, Done, NotHeld, Whole, OtherDeck, OtherPrices, NotCheaper, Clashes}
 use Rattle.lock_rules.specs.Plan.{cost_of}
 use Rattle.book_rules.specs.Tests.{has_clash, is_own_cut}
-use Rattle.book_rules.specs.Shown.{Shown}
 use Rattle.book_rules.specs.NextSlot
 use Rattle.book_rules.specs.Step
-use Rattle.book_rules.proofs.ClosingLemmas.{MayRefuse, may-refuse, may-refuse_price}
+use Rattle.book_rules.proofs.ClosingLemmas.{MayRefuse, may-refuse, may-refuse_price, may-refuse_sweep}
 use Rattle.closing_rules.specs.declared.grounds.Ground.{Ground}
 use Rattle.closing_rules.specs.declared.grounds.Ground.TheVariants as by
 
@@ -29,6 +28,7 @@ entry_of (close id why) = entry.Close id why
 entry_of (post cut) = entry.Post
 entry_of (post_prices prices) = entry.Prices
 entry_of (close_price id number shown) = entry.Close id (by.Price number)
+entry_of (close_swept id number swept) = entry.Close id (by.Swept number)
 entry_of (park id c p deck turns) = entry.Park id c p
 entry_of (replace plan) = entry.Replace
 entry_of (release w) = entry.Release w
@@ -108,13 +108,12 @@ module _ {Break : Type 0} (broken : Instance → Plan → Option Break) (b : Boo
   take_free-step w (Some id) = Refused refl refl
   take_free-step w None = take_slot-step w (first_slot b is_back)
 
-  close-step : (id : ℕ) (why : Ground) (o : Option (Reply Break)) → MayRefuse o → Is (close id why) (Step.close_unless b id why o)
-  close-step id why (Some r) refuses = Refused refuses refl
-  close-step id why None refuses = plain (close id why) (Step.closed b id why) Closed refl refl refl refl refl refl refl refl refl refl
-
-  close_price-step : (id number : ℕ) (shown : Shown) (o : Option (Reply Break)) → MayRefuse o → Is (close_price id number shown) (Step.close_unless b id (by.Price number) o)
-  close_price-step id number shown (Some r) refuses = Refused refuses refl
-  close_price-step id number shown None refuses = plain (close_price id number shown) (Step.closed b id (by.Price number)) Closed refl refl refl refl refl refl refl refl refl refl
+  -- an event that closes slot id so, unless it is refused
+  close-step : (e : Event) (id : ℕ) (why : Ground) → cuts_of e ≡ [] → plans_of e ≡ [] → prices_of e ≡ [] → entry.Close id why ≡ entry_of e
+      → (o : Option (Reply Break)) → MayRefuse o → Is e (Step.close_unless b id why o)
+  close-step e id why no_cut no_plan no_prices own (Some r) refuses = Refused refuses refl
+  close-step e id why no_cut no_plan no_prices own None refuses =
+      plain e (Step.closed b id why) Closed no_cut no_plan no_prices refl (ap (λ x. b.history ++ x ∷ []) own) refl refl refl refl refl
 
   park_group-step : (id c p : ℕ) (deck : Deck) (turns : ℕ) (o : Option Group) → Is (park id c p deck turns) (Step.park_group b id c p deck turns o)
   park_group-step id c p deck turns None = Refused refl refl
@@ -142,7 +141,8 @@ module _ {Break : Type 0} (broken : Instance → Plan → Option Break) (b : Boo
       (refuse_or (split id) whole (Whole id) (Step.split_slot b id) refl
       (plain (split id) (Step.split_slot {Break = Break} b id).0 (Made (length (Step.children_in b id))) refl refl refl refl refl refl refl refl refl refl))
   each-step (close id why) =
-      refuse_or (close id why) (not (Step.may_close b id)) (NotHeld id) (Step.close_unless b id why (Step.refusal_of b id why)) refl (close-step id why (Step.refusal_of b id why) (may-refuse b id Break why))
+      refuse_or (close id why) (not (Step.may_close b id)) (NotHeld id) (Step.close_unless b id why (Step.refusal_of b id why)) refl
+      (close-step (close id why) id why refl refl refl refl (Step.refusal_of b id why) (may-refuse b id Break why))
   each-step (post cut) =
       refuse_or (post cut) (not (is_own_cut b.case.instance cut)) OtherDeck (Step.posted b cut) refl
       (Accepted (record { accepted = refl; history = refl; cuts = refl; plans = append-nil b.plans; prices = append-nil b.prices; case = refl; opening = refl }))
@@ -151,7 +151,12 @@ module _ {Break : Type 0} (broken : Instance → Plan → Option Break) (b : Boo
       (Accepted (record { accepted = refl; history = refl; cuts = append-nil b.cuts; plans = append-nil b.plans; prices = refl; case = refl; opening = refl }))
   each-step (close_price id number shown) =
       let refusal = Step.price_refusal b id number shown (slice_get b.prices number) in
-      refuse_or (close_price id number shown) (not (Step.may_close b id)) (NotHeld id) (Step.close_unless b id (by.Price number) refusal) refl (close_price-step id number shown refusal (may-refuse_price b id Break number shown (slice_get b.prices number)))
+      refuse_or (close_price id number shown) (not (Step.may_close b id)) (NotHeld id) (Step.close_unless b id (by.Price number) refusal) refl
+      (close-step (close_price id number shown) id (by.Price number) refl refl refl refl refusal (may-refuse_price b id Break number shown (slice_get b.prices number)))
+  each-step (close_swept id number swept) =
+      let refusal = Step.sweep_refusal b id number swept (slice_get b.prices number) in
+      refuse_or (close_swept id number swept) (not (Step.may_close b id)) (NotHeld id) (Step.close_unless b id (by.Swept number) refusal) refl
+      (close-step (close_swept id number swept) id (by.Swept number) refl refl refl refl refusal (may-refuse_sweep b id Break number swept (slice_get b.prices number)))
   each-step (park id c p deck turns) =
       let onwards = Step.park_group b id c p deck turns (group_at (slot_at b id).node c p) in
       refuse_or (park id c p deck turns) (not (is_held (slot_at b id).state)) (NotHeld id) onwards refl (park_group-step id c p deck turns (group_at (slot_at b id).node c p))

@@ -10,8 +10,8 @@ use Rattle.closing_rules.specs.declared.grounds.Ground.TheVariants as by
 use Rattle.book_rules.specs.declared.book.Entry.{Entry}
 use Rattle.book_rules.specs.declared.book.Entry.TheVariants as entry
 use Rattle.book_rules.specs.Book.{Case, Book, slot_at, best_cost, ships_at, opening_book}
-use Rattle.book_rules.specs.Events.{Event, take, split, close, post, post_prices, close_price, park, replace, release}
-use Rattle.book_rules.specs.Shown.{Shown, chamber_cut}
+use Rattle.book_rules.specs.Events.{Event, take, split, close, post, post_prices, close_price, close_swept, park, replace, release}
+use Rattle.book_rules.specs.Shown.{Shown, Swept, chamber_cut}
 use Rattle.book_rules.specs.Step.{step}
 
 -- what the book itself says of slot id and the prices of a number: its own cuts and its best cost
@@ -24,13 +24,18 @@ own_shown b id number = record {
   cost = best_cost b;
 }
 
+-- what the book itself says is swept: its best cost, by its own cuts
+abbrev pub own_swept : Book → Swept
+own_swept b = record { instance = b.case.instance; cuts = map chamber_cut b.cuts; cost = best_cost b }
+
 -- the event that closes slot id so
 abbrev pub closing_of : Book → ℕ → Ground → Event
 closing_of b id (by.Price number) = close_price id number (own_shown b id number)
+closing_of b id (by.Swept number) = close_swept id number (own_swept b)
 closing_of b id why = close id why
 
 -- The book after the entries; a post takes the next cut or prices, a replace the next plan, a park the group's deck and the case's
--- turns, and a closing by prices what the book itself says.
+-- turns, and a closing by prices or by a sweep what the book itself says.
 abbrev pub replay_from :
     {Break : Type 0} → (Instance → Plan → Option Break) → Book → List Entry → List Cut → List Plan → List (List ℕ) → Book
 replay_from broken b [] cuts plans prices = b

@@ -1,7 +1,7 @@
 //! The search as a machine, the book: plain types, definitions and laws.
 //!
 //! - The machine: `specs/Book` (slots, cuts, prices, plans, history), `Events`, `Tests`, `Same`,
-//!   `Shown` (what is shown beside a book of prices), `NextSlot` (which slot is taken), `Step` (what
+//!   `Shown` (what is shown or swept beside a book), `NextSlot` (which slot is taken), `Step` (what
 //!   each event changes and answers, and what is refused), `Replay`, `Verdict`. Where no closing is
 //!   refused, the node is as its ground asks (`ClosingLemmas`, `ShownLemmas`).
 //! - What every book keeps: `specs/Cover` (every cheaper plan is under a live slot), and

@@ -2,6 +2,7 @@
 mod asking;
 mod memory;
 mod parking;
+mod sweeping;
 
 use crate::fixture::{NARROW, SIDE, narrow, open, side_by_side};
 use asking::{Ask, expect};

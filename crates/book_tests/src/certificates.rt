@@ -41,21 +41,32 @@ enum Deed {
     CloseProbe(u32, u8),
     PostAndClose(u32),
     CloseRootByPrices,
+    CloseRootBySweep,
     Replace,
 }
 
 use Deed::*;
 
+// Posts the cut and prices; whether the book accepted both.
+fn keeps_cut_and_prices(alloc: Global, book: &mut Book) -> Result<bool, Fail> {
+    Ok(
+        book.post(row_cut(alloc, NARROW)?) == Reply::Posted(0)
+            && book.post_prices(both_prices(8500)?) == Reply::Priced(0),
+    )
+}
+
 // Posts the cut and prices, and closes the root by them; whether the book accepted all of it.
 fn closes_root_by_prices(alloc: Global, book: &mut Book) -> Result<bool, Fail> {
-    if book.post(row_cut(alloc, NARROW)?) != Reply::Posted(0)
-        || book.post_prices(both_prices(8500)?) != Reply::Priced(0)
-    {
-        return Ok(false);
-    }
     let root = PricedRoot::new(alloc)?;
     let shown = root.shown(alloc)?;
-    Ok(book.close_price(0, 0, &shown) == Reply::Closed)
+    Ok(keeps_cut_and_prices(alloc, book)? && book.close_price(0, 0, &shown) == Reply::Closed)
+}
+
+// The same by a sweep.
+fn closes_root_by_sweep(alloc: Global, book: &mut Book) -> Result<bool, Fail> {
+    let root = PricedRoot::new(alloc)?;
+    let swept = root.swept(alloc, 120)?;
+    Ok(keeps_cut_and_prices(alloc, book)? && book.close_swept(0, 0, &swept) == Reply::Closed)
 }
 
 // Does one deed; whether the book accepted it.
@@ -70,6 +81,7 @@ fn does(alloc: Global, book: &mut Book, deed: Deed) -> Result<bool, Fail> {
                 && book.close_cut(id, 0) == Reply::Closed
         }
         CloseRootByPrices => closes_root_by_prices(alloc, book)?,
+        CloseRootBySweep => closes_root_by_sweep(alloc, book)?,
         Replace => matches!(book.replace(one_each()), Reply::Replaced(_)),
     })
 }
@@ -126,6 +138,14 @@ fn prices_finish_a_book(rt: HostRuntime) -> Result<(), Fail> {
     let book = driven(rt.alloc(), Narrow, one_after_the_other(50), priced)?;
     assert!(rt; book.best_cost() == 120);
     expect_marks(&rt, rt.alloc(), &book, &[Mark::Leaf(Ground::Price(0))])
+}
+
+#[test]
+fn a_sweep_finishes_a_book(rt: HostRuntime) -> Result<(), Fail> {
+    let swept = &[Take(0), CloseRootBySweep];
+    let book = driven(rt.alloc(), Narrow, one_after_the_other(50), swept)?;
+    assert!(rt; book.best_cost() == 120);
+    expect_marks(&rt, rt.alloc(), &book, &[Mark::Leaf(Ground::Swept(0))])
 }
 
 // Two workers split by turns, so that the slots stand in another order than the tree.

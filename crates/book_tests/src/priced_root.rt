@@ -1,16 +1,23 @@
-//! The root of the narrow lock, which the prices of its two ships and the cut of both close.
+//! The root of the narrow lock, which the cut of its two ships and their prices, or a sweep, close.
 ghost use Rattle.master_branch.specs.Node.{IsNodeOf};
 
 use crate::fixture::narrow;
 use lock_model::Instance;
 use master_branch::{Node, root};
 use price_bound::{KeptLines, PricedNode, show};
-use price_terms::{ChamberCut, Limits, Prices, Shown};
+use price_terms::{ChamberCut, Limits, Prices, Shown, Swept};
 use std::alloc::Global;
 use std::test::Fail;
+use sweep::{SweepAsked, SweepEnd, SweepLimits, sweep};
 use worked_locks::pair;
 
 const LIMITS: Limits = Limits {
+    groups: 100,
+    turns: 10_000,
+};
+
+const SWEEP_LIMITS: SweepLimits = SweepLimits {
+    labels: 1_000,
     groups: 100,
     turns: 10_000,
 };
@@ -63,5 +70,18 @@ impl PricedRoot {
             cuts: self.cuts.as_slice(),
         };
         Ok(show(&mut KeptLines::new(alloc), &asked, 120, LIMITS)?.ok_or("not shown")?)
+    }
+    /// That its cut leaves no uncut plan below this cost.
+    pub(crate) fn swept(&self, alloc: Global, cost: u64) -> Result<Swept<'_>, Fail> {
+        let asked = SweepAsked {
+            instance: &self.instance,
+            cuts: self.cuts.as_slice(),
+            prices: &self.prices,
+            goal: cost,
+        };
+        match sweep(alloc, &asked, SWEEP_LIMITS)?.end {
+            SweepEnd::Swept(swept) => Ok(swept),
+            SweepEnd::Cheaper(_) => Err("not swept".into()),
+        }
     }
 }

@@ -1,8 +1,8 @@
 -- An accepted certificate shows a cheapest plan.
-use Rattle.std.proofs.Common.{◌≡◌, ℕ, zero, suc, List, [], ◌∷◌, ◌++◌, refl, sym, ap, ap₂, ◌∙◌, subst, length, inl, inr, arith}
+use Rattle.std.proofs.Common.{◌≡◌, ℕ, zero, suc, List, [], ◌∷◌, ◌++◌, refl, ap, ap₂, ◌∙◌, subst, length, inl, inr, arith}
 use Rattle.lock_model.specs.declared.instance.Instance.{Instance}
 use Rattle.lock_model.specs.declared.group.Group.{Group}
-use Rattle.lock_rules.specs.Plan.{IsCheapest, cost_of}
+use Rattle.lock_rules.specs.Plan.{IsCheapest}
 use Rattle.lock_rules.specs.Node.{root_lines}
 use Rattle.lock_rules.specs.Children.{children_of}
 use Rattle.lock_rules.specs.Bound.{bound_of, least_number}

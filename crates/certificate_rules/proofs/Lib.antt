@@ -1,5 +1,6 @@
 pub mod AcceptLemmas
 pub mod CertRows
+pub mod SweptRows
 pub mod FailLemmas
 pub mod LeastLemmas
 pub mod LowLemmas

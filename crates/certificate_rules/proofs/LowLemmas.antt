@@ -70,6 +70,7 @@ module _ (I : Instance) (cost : ℕ) (cuts : List CertCut) (prices : List (List 
     closes-holds k lines by.Throughput node under h = let b = laws.throughput P legal in omega (arith, h, b)
     closes-holds k lines (by.Probe s) node under h = let b = laws.probe k lines s node h.0 P legal under in omega (arith, h.1, b)
     closes-holds k lines (by.Price number) node under h = laws.price (cuts_in I cuts) k lines h.own cost cuts-hold h.reached P legal under
+    closes-holds k lines (by.Swept number) node under h = laws.swept (cuts_in I cuts) cost cuts-hold h.swept P legal
 
     leaf-low : (k : ℕ) (lines : List (List Group)) (m : Mark) → IsNode I k lines → IsUnder I k lines P → EndsNode I cost cuts prices k lines m → (cost ≤ v) ⊎ HasBelow v (leaf_bounds (bound_of I k lines) m)
     leaf-low k lines mark.Split node under h = absurd h

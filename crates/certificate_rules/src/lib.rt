@@ -10,8 +10,9 @@
 //!
 //! The laws stand in `proofs/`: a certificate that stands proves its low (`LowLemmas`), acceptance means
 //! cheapest (`AcceptLemmas`), no certificate that stands fails (`FailLemmas`). They take the laws of the
-//! tree, `TreeLaws` of `closing_rules`. `CertRows` holds worked rows; of lemmas for others,
-//! `TreeLemmas` tells of trees of marks and `LeastLemmas` of the least of some numbers.
+//! tree, `TreeLaws` of `closing_rules`. `CertRows` holds worked rows, `SweptRows` those of a root that
+//! is closed by a sweep; of lemmas for others, `TreeLemmas` tells of trees of marks and `LeastLemmas` of
+//! the least of some numbers.
 #![tactic(auto)]
 
 mod certificate;

@@ -1,5 +1,5 @@
 -- The laws of the tree hold, given heredity and normal placements.
-use Rattle.std.proofs.Common.{[], ◌∷◌, arith}
+use Rattle.std.proofs.Common.{arith}
 use Rattle.lock_model.specs.Deck.{Deck, IsDeck}
 use Rattle.lock_model.specs.Fitting.{deck_of}
 use Rattle.lock_model.proofs.FleetLemmas.{IsDeck-deck_of}

@@ -7,7 +7,7 @@ use Rattle.search_book.specs.declared.ahead.Ahead.{Ahead}
 use Rattle.search_book.specs.declared.event.Event.{Event}
 use Rattle.search_book.specs.declared.gone.Gone.{Gone}
 use Rattle.search_book.specs.declared.next.Next.{Next}
-use Rattle.search_book.specs.declared.shutting.ByPrice.{ByPrice}
+use Rattle.search_book.specs.declared.shutting.Closing.{Closing}
 use Rattle.search_book.specs.Applied.{Applies}
 use Rattle.search_book.specs.Asked.{WasMade, WasFollowed, WasShut, WentAhead}
 use Rattle.search_book.specs.Following.{Follows}
@@ -20,7 +20,7 @@ was_made old new e r sound changes = record { before = old; after = new; sound =
 pub was_followed : (old new : Book) (e : Event) (w : ℕ) (next : Next) → IsSound old → Follows old e w next new → WasFollowed e w next
 was_followed old new e w next sound changes = record { before = old; after = new; sound = sound; changes = changes }
 
-pub was_shut : (old new : Book) (closing : ByPrice) (w : ℕ) (next : Next) → IsSound old → Shuts old closing w next new → WasShut closing w next
+pub was_shut : (old new : Book) (closing : Closing) (w : ℕ) (next : Next) → IsSound old → Shuts old closing w next new → WasShut closing w next
 was_shut old new closing w next sound changes = record { before = old; after = new; sound = sound; changes = changes }
 
 pub went_ahead : (old new : Book) (w id : ℕ) (nodes : List Ahead) (gone : Gone) → IsSound old → GoesAhead w old id nodes gone.place gone new → WentAhead w id nodes gone

@@ -7,7 +7,7 @@ use Rattle.search_book.specs.declared.ahead.Ahead.{Ahead}
 use Rattle.search_book.specs.declared.event.Event.{Event}
 use Rattle.search_book.specs.declared.gone.Gone.{Gone}
 use Rattle.search_book.specs.declared.next.Next.{Next}
-use Rattle.search_book.specs.declared.shutting.ByPrice.{ByPrice}
+use Rattle.search_book.specs.declared.shutting.Closing.{Closing}
 use Rattle.search_book.specs.Applied.{Applies}
 use Rattle.search_book.specs.Following.{Follows}
 use Rattle.search_book.specs.Going.{GoesAhead}
@@ -28,8 +28,8 @@ WasMade e r = WasAsked (λ old new. Applies old e r new)
 abbrev pub WasFollowed : Event → ℕ → Next → Type 0
 WasFollowed e w next = WasAsked (λ old new. Follows old e w next new)
 
--- a slot was closed by prices, and a taking by worker w made after it
-abbrev pub WasShut : ByPrice → ℕ → Next → Type 0
+-- a slot was closed by what was found beside the book, and a taking by worker w made after it
+abbrev pub WasShut : Closing → ℕ → Next → Type 0
 WasShut closing w next = WasAsked (λ old new. Shuts old closing w next new)
 
 -- worker w, who held slot id, went ahead over these nodes

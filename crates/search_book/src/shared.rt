@@ -15,7 +15,7 @@ use crate::kept::Kept;
 use crate::learning::learn_cuts;
 use crate::next::Next;
 use crate::replies::{is_accepting, is_idle};
-use crate::shutting::{ByPrice, close_price_and_take};
+use crate::shutting::{Closing, close_and_take};
 use book_core::Reply;
 use lock_model::WORKERS;
 use no_memory::NoMemory;
@@ -133,16 +133,16 @@ impl<L: Ledger> SharedBook<L> {
         next
     }
 
-    /// Waits for the lock, and closes a slot by prices and, where that is accepted, takes one for this
-    /// worker, as `close_price_and_take` does in one holding of the lock. The share grows by one for
+    /// Waits for the lock, and closes a slot by what was found and, where that is accepted, takes one for
+    /// this worker, as `close_and_take` does in one holding of the lock. The share grows by one for
     /// each of the two that is accepted, and then all who wait are told. The share needs a part, and
     /// keeps its parts.
-    pub fn close_price_and_take<W: Wait>(
+    pub fn close_and_take<W: Wait>(
         &self,
         rt: &W,
         share: &mut Share<L>,
         worker: u8,
-        closing: &ByPrice<'_>,
+        closing: &Closing<'_>,
     ) -> Next
         requires part { 0 < share.old.parts }
         requires worker { worker ≤ WORKERS }
@@ -153,7 +153,7 @@ impl<L: Ledger> SharedBook<L> {
         let mut kept = self.lock_soon(rt);
         let inside = &mut *kept;
         inside.book.keeps();
-        let next = close_price_and_take(inside, share, worker, closing);
+        let next = close_and_take(inside, share, worker, closing);
         if let Next::Taken(_) = next {
             self.leave(kept);
         }

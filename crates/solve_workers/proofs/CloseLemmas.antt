@@ -1,5 +1,5 @@
 -- Closing the held slot.
-use Rattle.std.proofs.Common.{◌≡◌, ℕ, refl, sym, ap, ◌∙◌, subst, Bool, true, false, not, cond, slice_get, Some, None, true≢false}
+use Rattle.std.proofs.Common.{◌≡◌, ℕ, ◌≤◌, refl, sym, ap, ◌∙◌, subst, Bool, true, false, not, cond, slice_get, Some, None, true≢false, le-ltb}
 use Rattle.std.proofs.lemmas.Bool.{not_from_true}
 use Rattle.std.specs.declared.option.Option.{Option}
 use Rattle.lock_rules.specs.Arrival.{missing_ships}
@@ -21,7 +21,7 @@ use Rattle.book_rules.proofs.TestLemmas.{has_number-decides, is_node_hit-decides
 use Rattle.book_rules.proofs.ClosingLemmas.{MayRefuse, may-refuse}
 use Rattle.book_core.specs.declared.reply.Reply.{Reply}
 use Rattle.book_core.specs.Replies.{Answers}
-use Rattle.book_core.proofs.CloseLemmas.{pick-false, high-unrefused, probe-asked, cut-hits}
+use Rattle.book_core.proofs.CloseLemmas.{pick-false, probe-asked, cut-hits}
 use Rattle.solve_workers.specs.Holding.{HoldsOnly}
 use Rattle.solve_workers.specs.Told.{is_closed}
 use Rattle.solve_workers.proofs.ToldLemmas.{Answer, closes, told-closed}
@@ -87,17 +87,22 @@ module _ (b : Book) (id : ℕ) (node : Node) (holds : HoldsOnly b id node) (r : 
 
   -- ---- a ground that holds of the node
 
+  -- a number that is at least the best cost
+  high-unrefused : (n : ℕ) → best_cost b ≤ n → Step.cheaper_than {Break = BrokenPlan} (best_cost b) n ≡ None
+  high-unrefused n high = ap (λ t. cond t (Some (machine.Cheaper n (best_cost b))) None) (le-ltb n (best_cost b) high)
+
   unrefused : (why : Ground) → IsClosedBy b.case.instance (IsHitBy b.case.instance b.cuts) IsNeverPriced IsNeverSwept (best_cost b) (slot_at b id).bound (slot_at b id).node.depth (slot_at b id).node.lines why → Step.refusal_of {Break = BrokenPlan} b id why ≡ None
-  unrefused by.Bound high = high-unrefused b (Step.refusal_of b id by.Bound) (slot_at b id).bound (best_cost b) refl refl high
-  unrefused by.Throughput high = high-unrefused b (Step.refusal_of b id by.Throughput) (throughput_of b.case.instance) (best_cost b) refl refl high
+  unrefused by.Bound high = high-unrefused (slot_at b id).bound high
+  unrefused by.Throughput high = high-unrefused (throughput_of b.case.instance) high
   unrefused (by.Probe s) is =
       let missing : Step.lacks_ship b id s ≡ true = (has_number-decides (missing_ships b.case.instance (slot_at b id).node.depth) s).1 is.0 in
-      high-unrefused b (Step.refusal_of b id (by.Probe s)) (Step.probe_at b id s) (best_cost b) refl (probe-asked b id s (Step.probe_at b id s) missing refl) is.1
+      probe-asked b id s (Step.probe_at b id s) missing refl ∙ high-unrefused (Step.probe_at b id s) is.1
   unrefused (by.Cut number) h =
       let hit : Step.hits_in b id (slice_get b.cuts number) ≡ true =
       ap (Step.hits_in b id) h.there ∙ (is_node_hit-decides b.case.instance h.cut (slot_at b id).node.lines).1 h.hits in
       cut-hits b id number hit
   unrefused (by.Price number) h = absurd h
+  unrefused (by.Swept number) h = absurd h
 
   pub sure_shut : (why : Ground) → IsClosedBy b.case.instance (IsHitBy b.case.instance b.cuts) IsNeverPriced IsNeverSwept (best_cost b) (slot_at b id).bound (slot_at b id).node.depth (slot_at b id).node.lines why → Answers b (close id why) r new → HoldsNothing new
   sure_shut why is answers = close_shut why answers (sure why (unrefused why is) answers)

@@ -11,7 +11,7 @@ use Rattle.closing_rules.specs.declared.grounds.Ground.TheVariants as by
 use Rattle.book_rules.specs.Tests.{has_clash, is_own_cut}
 use Rattle.book_rules.specs.Book.{Book, Case, first_slot, has_slot, is_held, is_held_by, is_back, group_at, slot_at, best_cost}
 use Rattle.book_rules.specs.Cheap.{opening_cost}
-use Rattle.book_rules.specs.Events.{Event, Reply, IsOwed, take, split, close, post, post_prices, close_price, park, replace, release}
+use Rattle.book_rules.specs.Events.{Event, Reply, IsOwed, take, split, close, post, post_prices, close_price, close_swept, park, replace, release}
 use Rattle.book_rules.specs.Events.{Replaced, Ended, NodesSpent, Idle, Done, NotHeld, Whole, OtherDeck, OtherPrices, NotCheaper, Clashes}
 use Rattle.book_rules.specs.NextSlot.{next_fresh}
 use Rattle.book_rules.specs.Room.{room_of}
@@ -76,6 +76,9 @@ module _ {Break : Type 0} (broken : Instance → Plan → Option Break) (b : Boo
   ended-stays (close_price id number shown) is =
       let refusal = Step.price_refusal b id number shown (slice_get b.prices number) in
       keep_or (not (Step.may_close b id)) (NotHeld id) (Step.close_unless b id (by.Price number) refusal) (close-ended id (by.Price number) refusal)
+  ended-stays (close_swept id number swept) is =
+      let refusal = Step.sweep_refusal b id number swept (slice_get b.prices number) in
+      keep_or (not (Step.may_close b id)) (NotHeld id) (Step.close_unless b id (by.Swept number) refusal) (close-ended id (by.Swept number) refusal)
   ended-stays (park id c p deck turns) is =
       keep_or (not (is_held (slot_at b id).state)) (NotHeld id) (Step.park_group b id c p deck turns (group_at (slot_at b id).node c p)) (group-ended id c p deck turns (group_at (slot_at b id).node c p))
   ended-stays (replace plan) is = replace-ended plan (broken b.case.instance plan)

@@ -140,6 +140,7 @@ early_closable b n bound best by.Throughput best_is bound_is is = record { close
 early_closable b n bound best (by.Probe s) best_is bound_is is = absurd is
 early_closable b n bound best (by.Cut number) best_is bound_is is = absurd is
 early_closable b n bound best (by.Price number) best_is bound_is is = absurd is
+early_closable b n bound best (by.Swept number) best_is bound_is is = absurd is
 
 -- what becomes of the node by the search of the book
 pub own_fate : (b : Book) (search : Search) (n : Node) (best : ℕ) (f : Fate) → IsOwnSearch b search → best ≡ best_cost b → IsFate (HitsShips b search.instance.now) search.instance.now search.turns best n f → IsDriversFate b n f

@@ -2,16 +2,18 @@
 use Rattle.std.proofs.Common.{◌≡◌, ℕ, ◌<◌, List, length, refl, sym, ap, ◌∙◌, subst, Bool, true, false, not, cond, nat_eq, slice_get, slice_index_or}
 use Rattle.mooring_rules.specs.declared.breaks.BrokenPlan.{BrokenPlan}
 use Rattle.refute_rules.specs.Cuts.{Cut}
+use Rattle.std.specs.declared.option.Option.{Option}
+use Rattle.closing_rules.specs.declared.grounds.Ground.{Ground}
 use Rattle.closing_rules.specs.declared.grounds.Ground.TheVariants as by
 use Rattle.book_rules.specs.Book.{Book, no_slot, is_held}
 use Rattle.lock_rules.specs.Node.{Node}
 use Rattle.book_rules.specs.Ends.{HoldsNothing}
 use Rattle.book_rules.specs.Events as machine
-use Rattle.book_rules.specs.Events.{post, post_prices, close_price}
-use Rattle.book_rules.specs.Shown.{Shown}
+use Rattle.book_rules.specs.Events.{Event, post, post_prices, close_price, close_swept}
+use Rattle.book_rules.specs.Shown.{Shown, Swept}
 use Rattle.book_rules.specs.Step
 use Rattle.book_rules.specs.Tests.{is_own_cut}
-use Rattle.book_rules.proofs.ClosingLemmas.{may-refuse_price}
+use Rattle.book_rules.proofs.ClosingLemmas.{MayRefuse, may-refuse_price, may-refuse_sweep}
 use Rattle.book_core.specs.declared.reply.Reply.{Reply}
 use Rattle.book_core.specs.Replies.{Answers, Does, Steps, Stays}
 use Rattle.solve_workers.specs.Holding.{HoldsOnly}
@@ -53,21 +55,52 @@ still_holds b new id node same holds = record {
 pub still_nothing : (b new : Book) → new.slots ≡ b.slots → HoldsNothing b → HoldsNothing new
 still_nothing b new same free = record { none = λ id known. ap (λ xs. is_held (slice_index_or xs id no_slot).state) same ∙ free.none id (subst (λ n. id < n) (ap length same) known) }
 
--- ---- closing by what was shown
+-- ---- closing by what was shown or swept
 
-module _ (b : Book) (id : ℕ) (node : Node) (number : ℕ) (shown : Shown) (r : Reply) (new : Book) where
-  price-out : CloseOut b id (Step.close_price_step b id number shown)
-  price-out = by_test (Step.may_close b id)
+-- an event that closes slot id so, unless it is refused
+module _ (b : Book) (id : ℕ) (node : Node) (why : Ground) (e : Event) (refusal : Option Answer) (refuses : MayRefuse refusal) (r : Reply) (new : Book) where
+  abbrev closing : Out
+  closing = cond (not (Step.may_close b id)) (b, machine.NotHeld id) (Step.close_unless b id why refusal)
+
+  closing-out : CloseOut b id closing
+  closing-out = by_test (Step.may_close b id)
     where
-      by_test : (t : Bool) → CloseOut b id (cond (not t) (b, machine.NotHeld id) (Step.close_unless b id (by.Price number) (Step.price_refusal b id number shown (slice_get b.prices number))))
-      by_test true = unless-out b id (by.Price number) (Step.price_refusal b id number shown (slice_get b.prices number)) (may-refuse_price b id BrokenPlan number shown (slice_get b.prices number))
+      by_test : (t : Bool) → CloseOut b id (cond (not t) (b, machine.NotHeld id) (Step.close_unless b id why refusal))
+      by_test true = unless-out b id why refusal refuses
       by_test false = Kept refl refl
 
-  leaves : Answers b (close_price id number shown) r new → HoldsOnly b id node → Leaves b new (is_closed r)
-  leaves answers holds = leaves-answer b id node (Step.close_price_step b id number shown) r new answers.answer holds price-out answers.same (told-closed r answers.answer answers.said)
+  module _ (answers : Answers b e r new) (is : closing ≡ Step.step (λ _ _. answers.found) b e) (holds : HoldsOnly b id node) where
+    leaves : Leaves b new (is_closed r)
+    leaves = leaves-answer b id node closing r new answers.answer holds closing-out (is ∙ answers.same) (told-closed r answers.answer answers.said)
 
-  pub price_shut : Answers b (close_price id number shown) r new → is_closed r ≡ true → HoldsOnly b id node → HoldsNothing new
-  price_shut answers closed holds = (leaves answers holds).shut closed
+    closing_shut : is_closed r ≡ true → HoldsNothing new
+    closing_shut closed = leaves.shut closed
 
-  pub price_kept : Answers b (close_price id number shown) r new → is_closed r ≡ false → HoldsOnly b id node → HoldsOnly new id node
-  price_kept answers off holds = subst (λ (x : Book). HoldsOnly x id node) (sym ((leaves answers holds).kept off)) holds
+    closing_kept : is_closed r ≡ false → HoldsOnly new id node
+    closing_kept off = subst (λ (x : Book). HoldsOnly x id node) (sym (leaves.kept off)) holds
+
+module _ (b : Book) (id : ℕ) (node : Node) (number : ℕ) (shown : Shown) (r : Reply) (new : Book) (answers : Answers b (close_price id number shown) r new) where
+  abbrev price_refusal : Option Answer
+  price_refusal = Step.price_refusal b id number shown (slice_get b.prices number)
+
+  price_refuses : MayRefuse price_refusal
+  price_refuses = may-refuse_price b id BrokenPlan number shown (slice_get b.prices number)
+
+  pub price_shut : is_closed r ≡ true → HoldsOnly b id node → HoldsNothing new
+  price_shut closed holds = closing_shut b id node (by.Price number) (close_price id number shown) price_refusal price_refuses r new answers refl holds closed
+
+  pub price_kept : is_closed r ≡ false → HoldsOnly b id node → HoldsOnly new id node
+  price_kept off holds = closing_kept b id node (by.Price number) (close_price id number shown) price_refusal price_refuses r new answers refl holds off
+
+module _ (b : Book) (id : ℕ) (node : Node) (number : ℕ) (swept : Swept) (r : Reply) (new : Book) (answers : Answers b (close_swept id number swept) r new) where
+  abbrev sweep_refusal : Option Answer
+  sweep_refusal = Step.sweep_refusal b id number swept (slice_get b.prices number)
+
+  sweep_refuses : MayRefuse sweep_refusal
+  sweep_refuses = may-refuse_sweep b id BrokenPlan number swept (slice_get b.prices number)
+
+  pub swept_shut : is_closed r ≡ true → HoldsOnly b id node → HoldsNothing new
+  swept_shut closed holds = closing_shut b id node (by.Swept number) (close_swept id number swept) sweep_refusal sweep_refuses r new answers refl holds closed
+
+  pub swept_kept : is_closed r ≡ false → HoldsOnly b id node → HoldsOnly new id node
+  swept_kept off holds = closing_kept b id node (by.Swept number) (close_swept id number swept) sweep_refusal sweep_refuses r new answers refl holds off

@@ -10,6 +10,7 @@
 #![tactic(auto)]
 
 mod asked;
+mod gains;
 mod lane;
 
 pub use asked::{ArcLimits, ArcsAsked};

@@ -1,6 +1,7 @@
 //! What books answer, as text.
 
 use crate::fixture::{both, one_after_the_other, row_cut};
+use crate::priced_root::{PricedRoot, both_prices};
 use crate::spent_decks::spent_both;
 use book_core::{Book, Refusal, Reply};
 use book_rules::SlotState;
@@ -20,6 +21,11 @@ pub(crate) enum Ask {
     Post(u32),
     /// The slot is parked at this group of a chamber, whose deck is that of both ships.
     Park(u32, u8, u8),
+    /// So much for each ship.
+    Prices(u32),
+    /// The slot is closed by the prices of this number and this cost, which is swept in the narrow
+    /// chamber by the cut of both ships.
+    CloseSwept(u32, u64, u64),
     /// The plan of both ships side by side.
     Both,
     /// The plan of one ship from minute 0, and the other from this minute.
@@ -38,6 +44,11 @@ pub(crate) fn reply_of(alloc: Global, book: &mut Book, ask: Ask) -> Result<Reply
             let hard = spent_both(alloc, book)?;
             book.park(id, chamber, place, &hard)
         }
+        Ask::Prices(price) => book.post_prices(both_prices(price)?),
+        Ask::CloseSwept(id, number, cost) => {
+            let root = PricedRoot::new(alloc)?;
+            book.close_swept(id, number, &root.swept(alloc, cost)?)
+        }
         Ask::Both => book.replace(both()),
         Ask::After(start) => book.replace(one_after_the_other(start)),
     })
@@ -50,6 +61,7 @@ fn accepted_text(alloc: Global, reply: &Reply) -> Result<String, Fail> {
         Reply::Made(count) => format!(in alloc; "Made({count})")?,
         Reply::Closed => format!(in alloc; "Closed")?,
         Reply::Posted(number) => format!(in alloc; "Posted({number})")?,
+        Reply::Priced(number) => format!(in alloc; "Priced({number})")?,
         Reply::Parked => format!(in alloc; "Parked")?,
         Reply::Replaced(cost) => format!(in alloc; "Replaced({cost})")?,
         Reply::Released(count) => format!(in alloc; "Released({count})")?,
@@ -72,6 +84,9 @@ fn refusal_text(alloc: Global, why: &Refusal) -> Result<String, Fail> {
         Refusal::NotLegal(_) => format!(in alloc; "NotLegal")?,
         Refusal::NotCheaper(cost, best) => format!(in alloc; "NotCheaper({cost}, {best})")?,
         Refusal::Absent(ship) => format!(in alloc; "Absent({ship})")?,
+        Refusal::NoPrices(number) => format!(in alloc; "NoPrices({number})")?,
+        Refusal::NotRoot => format!(in alloc; "NotRoot")?,
+        Refusal::NotSwept => format!(in alloc; "NotSwept")?,
         _ => format!(in alloc; "another")?,
     })
 }
@@ -93,6 +108,7 @@ fn state_text(alloc: Global, state: SlotState) -> Result<String, Fail> {
         SlotState::Parked(chamber, place) => format!(in alloc; "Parked({chamber}, {place})")?,
         SlotState::Closed(Ground::Bound) => format!(in alloc; "Closed(Bound)")?,
         SlotState::Closed(Ground::Cut(number)) => format!(in alloc; "Closed(Cut({number}))")?,
+        SlotState::Closed(Ground::Swept(number)) => format!(in alloc; "Closed(Swept({number}))")?,
         _ => format!(in alloc; "another")?,
     })
 }

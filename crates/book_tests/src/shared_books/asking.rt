@@ -3,7 +3,7 @@ ghost use Rattle.std.specs.Prelude.{◌≡◌, IfOk};
 ghost use Rattle.search_book.specs.Events.{IsAllowed};
 
 use super::ahead::{Way, go_ahead, went};
-use super::shutting::{close_by_price, closed_by_price};
+use super::shutting::{close_by_price, close_by_sweep, closed_by_price, closed_by_sweep};
 use crate::fixture::{NARROW, both, row_cut};
 use crate::priced_root::both_prices;
 use crate::spent_decks::spent_both;
@@ -41,6 +41,9 @@ pub(crate) enum Ask {
     /// Slot 0 is closed by the prices of this number, for which the root of the narrow chamber was
     /// shown with 8500 for each ship, and the next slot is taken.
     ClosePriceAndTake(u64),
+    /// Slot 0 is closed by a sweep of the root of the narrow chamber with the prices of this number,
+    /// and the next slot is taken.
+    CloseSweptAndTake(u64),
     /// Nodes from the root on are handed over.
     GoAhead(Way),
 }
@@ -59,7 +62,8 @@ fn event_of(alloc: Global, twin: &Book, ask: Ask) -> Result<Event, Fail>
         Ask::Replace => Event::Replace(Box::new(alloc, both())?),
         Ask::Release => Event::Release(0),
         Ask::Prices(price) => Event::PostPrices(Box::new(alloc, both_prices(price)?)?),
-        Ask::Wait | Ask::Take | Ask::GoAhead(_) | Ask::ClosePriceAndTake(_) => Event::Take(0),
+        Ask::Wait | Ask::Take | Ask::GoAhead(_) => Event::Take(0),
+        Ask::ClosePriceAndTake(_) | Ask::CloseSweptAndTake(_) => Event::Take(0),
     })
 }
 
@@ -84,6 +88,7 @@ fn direct(alloc: Global, book: &mut Book, ask: Ask) -> Result<Reply, Fail> {
         }
         Ask::Prices(price) => book.post_prices(both_prices(price)?),
         Ask::ClosePriceAndTake(number) => closed_by_price(alloc, book, number)?,
+        Ask::CloseSweptAndTake(number) => closed_by_sweep(alloc, book, number)?,
         Ask::GoAhead(way) => went(book, way),
     })
 }
@@ -114,6 +119,7 @@ fn through<L: Ledger, R: Wait>(
             last_of(shared.end_and_take(rt, mine, 0, event))
         }
         Ask::ClosePriceAndTake(number) => last_of(close_by_price(rt, alloc, shared, mine, number)?),
+        Ask::CloseSweptAndTake(number) => last_of(close_by_sweep(rt, alloc, shared, mine, number)?),
         Ask::GoAhead(way) => last_of(go_ahead(rt, alloc, shared, mine, way)?),
         _ => shared.with_book(rt, mine, event),
     })

@@ -137,6 +137,18 @@ fn prices_close_through_the_lock(rt: HostRuntime) -> Result<(), Fail> {
 }
 
 #[test]
+fn a_sweep_closes_through_the_lock(rt: HostRuntime) -> Result<(), Fail> {
+    let asks = &[
+        Ask::Take,
+        Ask::Post,
+        Ask::Prices(8500),
+        Ask::CloseSweptAndTake(1),
+        Ask::CloseSweptAndTake(0),
+    ];
+    compare(&rt, rt.alloc(), two_narrow(rt.alloc())?, asks, 4)
+}
+
+#[test]
 fn nodes_ahead_are_the_same_events(rt: HostRuntime) -> Result<(), Fail> {
     for (way, events) in [
         (Way::Both, 5),

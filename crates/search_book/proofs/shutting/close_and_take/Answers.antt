@@ -1,5 +1,5 @@
 use Rattle.std.proofs.Common.{rules}
-use Rattle.search_book.proofs.shutting.close_price_and_take.Goals as goal
+use Rattle.search_book.proofs.shutting.close_and_take.Goals as goal
 
 pub returns-clause-steps : goal.returns-clause-steps
 returns-clause-steps g c = record {
