@@ -1,8 +1,8 @@
 -- All uncut groups of a way.
-use Rattle.std.proofs.Common.{◌≡◌, ◌≢◌, ℕ, suc, ◌+◌, ◌*◌, ◌<◌, ◌≤◌, max, Bool, true, false, ◌||◌, ◌⊎◌, inl, inr, List, [], ◌∷◌, length, All, filter, replicate, refl, sym, ap, ◌∙◌, subst, arith, slice_index_or}
+use Rattle.std.proofs.Common.{◌≡◌, ◌≢◌, ℕ, suc, ◌+◌, ◌*◌, ◌<◌, ◌≤◌, max, min, Bool, true, false, ◌||◌, ◌⊎◌, inl, inr, List, [], ◌∷◌, length, All, Contains, filter, map, slice_set, get_or-set_same, get_or-set_other, refl, sym, ap, ◌∙◌, subst, arith, slice_index_or}
 use Rattle.std.proofs.lemmas.Bool.Decides.{eqb_tells, leb_tells}
-use Rattle.std.proofs.lemmas.List.{get_or-replicate, get_or_default, get_or_past}
-use Rattle.std.proofs.lemmas.List.Elements.{All-contains, All-nil, All-weaker}
+use Rattle.std.proofs.lemmas.List.{get_or-map, get_or_default, get_or_past}
+use Rattle.std.proofs.lemmas.List.Elements.{All-contains, All-contains_itself, All-filter, All-nil, All-weaker}
 use Rattle.std.proofs.lemmas.List.Sums.{sum_by-le}
 use Rattle.lock_model.specs.Fleet.{ship_at, chamber_at, no_ship, no_chamber}
 use Rattle.lock_model.specs.declared.limits.TheConstants.{MOST, SHIPS}
@@ -14,23 +14,50 @@ use Rattle.lock_rules.specs.Arrival.{first_ships}
 use Rattle.lock_rules.specs.Timetable.{last_arrival}
 use Rattle.lock_rules.specs.Trace.{has_number}
 use Rattle.lock_rules.proofs.TimetableLemmas.{last_arrival-least}
+use Rattle.lock_rules.specs.Children.{insert_number}
+use Rattle.lock_rules.proofs.AmongLemmas.{contains-times}
+use Rattle.lock_rules.proofs.TreeLemmas.{length-insert_number}
 use Rattle.price_rules.specs.Prices.{price_at}
 use Rattle.price_groups.specs.Asks.{LineAsk, IsUncutIn, group_ask}
 use Rattle.price_groups.specs.Growing.{IsGrown, IsBase, HasIdler, AreBelow}
 use Rattle.price_groups.specs.GrownLists.{HasGroup, IsGrownGroup, IsGrownList}
 use Rattle.price_groups.specs.Sparing.{AreForbidden}
 use Rattle.price_groups.specs.Worth.{soonest_of}
+use Rattle.price_groups.proofs.GrowLemmas.{is_other, again, grown-fewer, missing-fresh}
 use Rattle.price_groups.specs.declared.grown_lists.GrownGroup.{GrownGroup}
 use Rattle.price_groups.specs.declared.grown_lists.GrownList.{GrownList}
 use Rattle.sweep_labels.specs.Ships.{is_in, HoldsAll}
 use Rattle.sweep_arcs.specs.declared.way_groups.Latest.{Latest}
-use Rattle.sweep_arcs.specs.Ways.{AreHighest, AreBefore, IsBrief, IsWayGroup, AreWayGroups, AreJoined}
+use Rattle.sweep_arcs.specs.Ways.{AreCeilings, IsIdleGroup, AreBefore, IsBrief, IsWayGroup, AreWayGroups, AreJoined}
 
 earlier : (i j : ℕ) → j ≢ i → j < i + 1 → j < i
 earlier i j other less = elim (leb_tells (suc j) i) [ inl y ↦ y.1 | inr q ↦ absurd (other (omega (arith, less, q.1))) ]
 
-pub highest_each : (prices : List ℕ) → prices ≡ replicate SHIPS 1000000 → AreHighest prices
-highest_each prices are = record { each = λ s less. ap (λ prices. slice_index_or prices s 0) are ∙ get_or-replicate SHIPS s 1000000 0 less }
+pub ceilings_first : (prices : List ℕ) (spread : ℕ) (ceilings : List ℕ) → AreCeilings prices spread 0 ceilings
+ceilings_first prices spread ceilings = record { each = λ s less. absurd (omega (arith, less)); fair = λ s less. absurd (omega (arith, less)) }
+
+pub ceilings_next : (prices : List ℕ) (spread n price own : ℕ) (old : List ℕ) → n < length old → price ≡ price_at prices n → price ≤ 1000000 → own ≡ min 1000000 (price + spread + 1)
+    → AreCeilings prices spread n old → AreCeilings prices spread (n + 1) (slice_set old n own)
+ceilings_next prices spread n price own old here is fair raised before = record {
+  each = λ s less. elim (eqb_tells s n) [
+    | inl y ↦ ap (λ s. price_at (slice_set old n own) s) y.1 ∙ get_or-set_same old n own 0 here ∙ raised ∙ ap (λ p. min 1000000 (p + spread + 1)) (is ∙ ap (price_at prices) (sym y.1))
+    | inr m ↦ get_or-set_other old n s own 0 m.1 ∙ before.each s (earlier n s m.1 less)
+  ];
+  fair = λ s less. elim (eqb_tells s n) [
+    | inl y ↦ omega (arith, ap (price_at prices) y.1, is, fair)
+    | inr m ↦ before.fair s (earlier n s m.1 less)
+  ];
+}
+
+-- what is no more than prices may be isn't capped
+pub ceilings-capped : (prices : List ℕ) (spread : ℕ) (high : List ℕ) → length high ≡ SHIPS → AreCeilings prices spread SHIPS high → AreCeilings prices spread SHIPS (map (min 1000000) high)
+ceilings-capped prices spread high count are = record {
+  each = λ s less. get_or-map (min 1000000) high s 0 0 (omega (arith, less, count)) ∙ ap (min 1000000) (are.each s less) ∙ twice (price_at prices s + spread + 1);
+  fair = are.fair;
+}
+  where
+    twice : (n : ℕ) → min 1000000 (min 1000000 n) ≡ min 1000000 n
+    twice n = omega arith
 
 pub before_first : (I : Instance) (latest : Latest) → AreBefore I latest 0
 before_first I latest = record { arrivals = λ s less. absurd (omega (arith, less)); handlings = λ s less. absurd (omega (arith, less)) }
@@ -84,10 +111,10 @@ joined_next groups n one old new here is joined more = record {
     either true = refl
     either false = refl
 
-pub below-highest : (prices ceilings : List ℕ) → All (λ p. p ≤ 1000000) prices → length prices ≤ SHIPS → AreHighest ceilings → AreBelow prices ceilings
-below-highest prices ceilings small few highest s = elim (leb_tells (suc s) (length prices)) [
-  | inl y ↦ omega (arith, small s 0 y.1, highest.each s (omega (arith, y.1, few)))
-  | inr q ↦ omega (arith, get_or_past prices s 0 (omega (arith, q.1)))
+pub below-ceilings : (prices : List ℕ) (spread : ℕ) (ceilings : List ℕ) → length prices ≤ SHIPS → AreCeilings prices spread SHIPS ceilings → AreBelow prices ceilings
+below-ceilings prices spread ceilings few are s = elim (leb_tells (suc s) SHIPS) [
+  | inl y ↦ omega (arith, are.each s y.1, are.fair s y.1)
+  | inr q ↦ omega (arith, get_or_past prices s 0 (omega (arith, q.1, few)))
 ]
 
 filter-none : (ships : List ℕ) → filter (has_number []) ships ≡ []
@@ -110,10 +137,10 @@ module _ (L : LineAsk) (root : L.depth ≡ 0) (way : Way) where
     keeps = refl;
   }
 
-  -- ALL UNCUT GROUPS OF THE WAY ARE GROWN where each price is the greatest and all are served soon
-  pub all-grown : (sets : List (List ℕ)) (ceilings : List ℕ) (list : GrownList) → L.chamber < length L.instance.chambers → AreForbidden L.instance L.chamber L.cuts sets → AreHighest ceilings → IsBrief L
-      → list.base ≡ empty → IsGrownList (group_ask L.instance L.chamber L.depth ceilings sets) list → AreWayGroups L way list.groups.items
-  all-grown sets ceilings list known forbids highest brief base grown = record { each = λ k d here. own (slice_index_or list.groups.items k d) (grown.each k d here); whole = whole }
+  -- ALL UNCUT GROUPS OF THE WAY ARE GROWN but such ones
+  pub all-grown : (sets : List (List ℕ)) (spread : ℕ) (ceilings : List ℕ) (list : GrownList) → L.chamber < length L.instance.chambers → AreForbidden L.instance L.chamber L.cuts sets
+      → AreCeilings L.prices spread SHIPS ceilings → IsBrief L → list.base ≡ empty → IsGrownList (group_ask L.instance L.chamber L.depth ceilings sets) list → AreWayGroups L way spread list.groups.items
+  all-grown sets spread ceilings list known forbids are brief base grown = record { each = λ k d here. own (slice_index_or list.groups.items k d) (grown.each k d here); whole = whole }
     where
       most : (chamber_at L.instance L.chamber).most ≤ MOST
       most = (L.instance.limits.chamber L.chamber no_chamber known).most.1
@@ -126,8 +153,8 @@ module _ (L : LineAsk) (root : L.depth ≡ 0) (way : Way) where
         mask = is.sums.mask;
       }
 
-      uncut : (g : Group) → IsUncutIn L g → g.way ≡ way → IsGrown L.instance L.chamber L.depth sets empty (length L.instance.ships) g
-      uncut g is same = record {
+      growing : (g : Group) → IsUncutIn L g → g.way ≡ way → IsGrown L.instance L.chamber L.depth sets empty (length L.instance.ships) g
+      growing g is same = record {
         rising = is.good.rising;
         known = is.known;
         few = is.good.count.1;
@@ -138,19 +165,37 @@ module _ (L : LineAsk) (root : L.depth ≡ 0) (way : Way) where
         allowed = All-weaker (λ s. s < length L.instance.ships) (λ s. (has_number (first_ships L.instance L.depth) s ≡ true) ⊎ (s < length L.instance.ships)) (λ s h. inr h) g.ships is.known;
       }
 
-      -- no ship gains nothing
-      busy : (g : Group) → IsUncutIn L g → HasIdler L.instance L.chamber L.depth ceilings g → ⊥
-      busy g is idler =
-          let here : idler.ship < length L.instance.ships = All-contains (λ s. s < length L.instance.ships) g.ships idler.ship is.known idler.held in
-          let price : price_at ceilings idler.ship ≡ 1000000 = highest.each idler.ship (omega (arith, here, L.instance.limits.ship_count.1)) in
-          let soon : soonest_of L.instance L.chamber 0 g.ships < 10000 = brief.soon g.ships is.known (omega (arith, is.good.count.1, most)) in
-          idle (price_at ceilings idler.ship) (ship_at L.instance idler.ship).arrival (soonest_of L.instance L.chamber 0 g.ships) price soon idler.idle
+      -- without a ship that gains nothing at the ceilings
+      idle : (g : Group) → IsUncutIn L g → IsGrown L.instance L.chamber L.depth sets empty (length L.instance.ships) g → HasIdler L.instance L.chamber L.depth ceilings g → IsIdleGroup L spread g
+      idle g uncut is idler =
+          let s = idler.ship in
+          let less = filter (is_other s) g.ships in
+          let h : Group = record { way = g.way; ships = less } in
+          let fewer = grown-fewer L.instance L.chamber L.depth ceilings sets empty (length L.instance.ships) s g (missing-fresh L.instance L.depth s idler.missing) is in
+          let back : insert_number s less ≡ g.ships = again s g.ships is.rising (contains-times g.ships s idler.held) in
+          let count : length g.ships ≡ suc (length less) = ap length (sym back) ∙ length-insert_number s less in
+          let here : s < length L.instance.ships = All-contains (λ s. s < length L.instance.ships) g.ships s uncut.known idler.held in
+          let ceiling = are.each s (omega (arith, here, L.instance.limits.ship_count.1)) in
+          let soon = brief.soon g.ships uncut.known (omega (arith, uncut.good.count.1, most)) in
+          record {
+            others = h;
+            uncut = record {
+              good = record { rising = fewer.rising; count = (omega (arith, count, idler.several), fewer.few); way = All-weaker (λ s. (ship_at L.instance s).way ≡ way) (λ s. (ship_at L.instance s).way ≡ g.way) (λ s w. w ∙ sym is.way) less fewer.ways };
+              known = fewer.known;
+              spared = forbids.spared less fewer.known fewer.missed;
+            };
+            same = refl;
+            among = All-filter (is_other s) (Contains g.ships) g.ships (All-contains_itself g.ships);
+            ship = s;
+            joined = back;
+            idle = late (price_at ceilings s) (price_at L.prices s) (ship_at L.instance s).arrival (soonest_of L.instance L.chamber 0 g.ships) ceiling soon idler.idle;
+          }
         where
-          idle : (price arrival end : ℕ) → price ≡ 1000000 → end < 10000 → price + 100 * arrival ≤ 100 * end → ⊥
-          idle price arrival end is soon late = omega (arith, is, soon, late)
+          late : (high price arrival end : ℕ) → high ≡ min 1000000 (price + spread + 1) → end < 10000 → high + 100 * arrival ≤ 100 * end → price + spread + 100 * arrival < 100 * end
+          late high price arrival end is soon past = omega (arith, is, soon, past)
 
-      whole : (g : Group) → IsUncutIn L g → g.way ≡ way → HasGroup list.groups.items g
-      whole g is same = elim (grown.whole g (subst (λ base. IsGrown L.instance L.chamber L.depth sets base (length L.instance.ships) g) (sym base) (uncut g is same))) [
-        | inl has ↦ has
-        | inr idler ↦ absurd (busy g is idler)
+      whole : (g : Group) → IsUncutIn L g → g.way ≡ way → HasGroup list.groups.items g ⊎ IsIdleGroup L spread g
+      whole g is same = elim (grown.whole g (subst (λ base. IsGrown L.instance L.chamber L.depth sets base (length L.instance.ships) g) (sym base) (growing g is same))) [
+        | inl has ↦ inl has
+        | inr idler ↦ inr (idle g is (growing g is same) idler)
       ]

@@ -1,11 +1,15 @@
 -- Arcs of groups, put to lists, and those of a list that are asked for.
-use Rattle.std.proofs.Common.{◌≡◌, ◌≢◌, ℕ, ℤ, pos, ◌+ℤ◌, suc, ◌+◌, ◌-◌, ◌*◌, ◌<◌, ◌≤◌, ◌≤ℤ◌, ◌<ℤ◌, Bool, true, false, IsTrue, ◌↔◌, ◌⊎◌, inl, inr, Some, None, List, [], ◌∷◌, ◌++◌, length, All, Contains, sum_by, refl, sym, ap, ◌∙◌, subst, arith, slice_index_or}
+use Rattle.std.proofs.Common.{Ordering, Less, Equal, Greater, ◌≡◌, ◌≢◌, ℕ, ℤ, pos, ◌+ℤ◌, zero, suc, ◌+◌, ◌-◌, ◌*◌, ◌<◌, ◌≤◌, ◌≤ℤ◌, ◌<ℤ◌, Bool, true, false, IsTrue, ◌↔◌, ◌⊎◌, inl, inr, Some, None, List, [], ◌∷◌, ◌++◌, length, All, Contains, sum_by, refl, sym, ap, ◌∙◌, subst, arith, slice_index_or}
 use Rattle.std.specs.declared.option.Option.{Option}
 use Rattle.std.proofs.Math.Seq.{get_or-append_seam}
 use Rattle.std.proofs.lemmas.Int.{ints, by_lt_z}
 use Rattle.std.proofs.lemmas.Bool.Decides.{eqb_tells, leb_tells}
 use Rattle.std.proofs.lemmas.List.{get_or_append_left, get_or_default, length-append}
-use Rattle.std.proofs.lemmas.List.Elements.{All-contains, Contains-append_left, Contains-push}
+use Rattle.std.proofs.lemmas.List.Elements.{All-contains, All-weaker, Contains-append_left, Contains-push}
+use Rattle.std.specs.List.Sorted.{IsPermutation, IsSortedByKey}
+use Rattle.std.specs.Ordering.{MatchOrdering, int_cmp, is_lt}
+use Rattle.std.proofs.lemmas.Cmp.{int_ranked, int_cmp_total}
+use Rattle.std.proofs.lemmas.List.Sorted.{Contains-permutation, ranks_by, sorted_far}
 use Rattle.std.proofs.lemmas.Nat.Bits.{bit_at_above}
 use Rattle.lock_model.specs.declared.group.Group.{Group}
 use Rattle.lock_model.specs.declared.way.Way.{Way}
@@ -19,8 +23,10 @@ use Rattle.lock_rules.specs.Plan.{times_in}
 use Rattle.lock_rules.specs.Trace.{has_number}
 use Rattle.lock_rules.proofs.AmongLemmas.{contains-times, times-contains}
 use Rattle.lock_rules.proofs.LeafLemmas.{has_number-some}
+use Rattle.lock_rules.proofs.TreeLemmas.{length-insert_number}
 use Rattle.lock_rules.proofs.SplitLemmas.{has_number-none}
 use Rattle.price_groups.specs.Asks.{LineAsk, IsUncutIn}
+use Rattle.price_groups.specs.GrownLists.{HasGroup}
 use Rattle.price_groups.specs.Masks.{IsMask}
 use Rattle.price_groups.specs.declared.grown_lists.GrownGroup.{GrownGroup}
 use Rattle.sweep_labels.specs.declared.step.Arc.{Arc}
@@ -30,8 +36,10 @@ use Rattle.sweep_labels.proofs.ShipLemmas.{in-one, one-in}
 use Rattle.sweep_arcs.specs.declared.arc_list.ArcList.{ArcList}
 use Rattle.sweep_arcs.specs.declared.asked.ArcsAsked.{ArcsAsked}
 use Rattle.sweep_arcs.specs.declared.listing.Range.{Range}
-use Rattle.sweep_arcs.specs.declared.way_lane.WayLane.{WayLane}
-use Rattle.sweep_arcs.specs.Ways.{AreWayGroups, IsWayOf, IsArcWorth, IsArcOrBeyond, IsPutArc, ArePutArcs, IsArcList, IsRangeList, IsAskedList, IsListAt, AreListsBy, IsListKept, IsWayLane, IsWide, IsPutAsked, AreWithin}
+use Rattle.sweep_arcs.specs.declared.way_arcs.WayArcs.{WayArcs}
+use Rattle.sweep_arcs.specs.declared.way_groups.WayGroups.{WayGroups}
+use Rattle.sweep_arcs.proofs.BeyondLemmas.{idle-beyond}
+use Rattle.sweep_arcs.specs.Ways.{IsIdleGroup, IsReached, IsWayOf, IsArcWorth, IsArcOrBeyond, IsPutArc, ArePutArcs, AreRising, IsArcList, IsRangeList, IsAskedList, IsListAt, AreListsBy, IsListKept, IsWayArcs, IsWide, IsPutAsked, AreWithin}
 
 clash : {X : Type 0} → true ≡ false → X
 clash e = cc
@@ -124,34 +132,35 @@ module _ (L : LineAsk) where
     ];
   }
 
-  -- ALL UNCUT GROUPS OF THE WAY have been put
-  pub puts_done : (range : Range) (groups : List GrownGroup) (arcs : List Arc) (list : ArcList) → AreWayGroups L range.way groups → ArePutArcs L range groups (length groups) arcs
-      → list.limit ≡ range.limit → list.arcs.items ≡ arcs → IsRangeList L range list
-  puts_done range groups arcs list are puts limit items = record { is = record { whole = whole }; limit = limit }
+  -- ALL UNCUT GROUPS OF THE WAY have been put, but for those that are worth more
+  pub puts_done : (range : Range) (all : WayGroups) (arcs ordered : List Arc) (list : ArcList) → L.chamber < length L.instance.chambers → IsPermutation arcs ordered → AreRising ordered → IsWayOf L range.way all
+      → IsReached L range all.spread → ArePutArcs L range all.groups.items (length all.groups.items) arcs → list.limit ≡ range.limit → list.arcs.items ≡ ordered → IsRangeList L range list
+  puts_done range all arcs ordered list known moved rising are reached puts limit items = record { is = record { rising = subst AreRising (sym items) rising; whole = whole }; limit = limit }
     where
-      whole : (g : Group) → IsUncutIn L g → g.way ≡ range.way → IsArcOrBeyond L range.minute list.limit list.arcs.items g
-      whole g uncut way =
-          let has = are.whole g uncut way in
+      groups : List GrownGroup
+      groups = all.groups.items
+
+      own : (g : Group) → IsUncutIn L g → g.way ≡ range.way → HasGroup groups g ⊎ IsIdleGroup L all.spread g → IsArcOrBeyond L range.minute range.limit ordered g
+      own g uncut way (inr idle) = inr (idle-beyond L known all.spread range.minute reached.gain range.limit g (subst (λ way. IsGainFrom L.instance L.chamber L.cuts (λ s. false) L.prices (stand_before way) range.minute reached.gain) (sym way) reached.is) reached.most idle)
+      own g uncut way (inl has) =
           let at = has.held in
           let same : (slice_index_or groups at.0 has.one).group ≡ g = ap (λ (one : GrownGroup). one.group) at.2 ∙ has.is in
-          let own : IsArcOrBeyond L range.minute range.limit arcs (slice_index_or groups at.0 has.one).group = puts.each at.0 has.one at.1 (subst (λ (g : Group). 1 ≤ length g.ships) (sym same) uncut.good.count.0) in
+          let put : IsArcOrBeyond L range.minute range.limit arcs (slice_index_or groups at.0 has.one).group = puts.each at.0 has.one at.1 (subst (λ (g : Group). 1 ≤ length g.ships) (sym same) uncut.good.count.0) in
+          arc-more range.minute range.limit g arcs ordered (λ arc at. Contains-permutation arcs ordered arc moved at) (subst (IsArcOrBeyond L range.minute range.limit arcs) same put)
+
+      whole : (g : Group) → IsUncutIn L g → g.way ≡ range.way → IsArcOrBeyond L range.minute list.limit list.arcs.items g
+      whole g uncut way =
           subst (λ limit. IsArcOrBeyond L range.minute limit list.arcs.items g) (sym limit)
           (subst (λ arcs. IsArcOrBeyond L range.minute range.limit arcs g) (sym items)
-          (subst (IsArcOrBeyond L range.minute range.limit arcs) same own))
-
-pub asked_above : (asked : ArcsAsked) (arc : Arc) (arcs : List Arc) → asked.room <ℤ arc.worth → IsPutAsked asked arc arcs arcs
-asked_above asked arc arcs more = record { kept = λ other at. at; own = λ low apart. absurd (past arc.worth more low) }
-  where
-    past : (worth : ℤ) → asked.room <ℤ worth → worth ≤ℤ asked.room → ⊥
-    past worth more low = omega (arith, ints, more, low)
+          (own g uncut way (are.groups.whole g uncut way)))
 
 pub asked_shared : (asked : ArcsAsked) (arc : Arc) (arcs : List Arc) (misses : Bool) → (IsTrue misses ↔ AreApart arc.ships.bits asked.served.bits) → misses ≡ false → IsPutAsked asked arc arcs arcs
-asked_shared asked arc arcs misses tells shared = record { kept = λ other at. at; own = λ low apart. clash (sym (tells.1 apart) ∙ shared) }
+asked_shared asked arc arcs misses tells shared = record { kept = λ other at. at; own = λ apart. clash (sym (tells.1 apart) ∙ shared) }
 
 pub asked_put : (asked : ArcsAsked) (arc : Arc) (old new : List Arc) → new ≡ old ++ arc ∷ [] → IsPutAsked asked arc old new
 asked_put asked arc old new put = record {
   kept = λ other at. subst (λ arcs. Contains arcs other) (sym put) (Contains-append_left old (arc ∷ []) other at);
-  own = λ low apart. subst (λ arcs. Contains arcs arc) (sym put) (Contains-push old arc);
+  own = λ apart. subst (λ arcs. Contains arcs arc) (sym put) (Contains-push old arc);
 }
 
 pub within_first : (asked : ArcsAsked) (list arcs : List Arc) → AreWithin asked list 0 arcs
@@ -163,13 +172,47 @@ within_next asked list n arc old new here is before put = record {
   each = λ k less low apart. elim (eqb_tells k n) [
     | inl y ↦
         let same : arc ≡ arc_at list k = is ∙ ap (arc_at list) (sym y.1) in
-        subst (Contains new) same (put.own (subst (λ (arc : Arc). arc.worth ≤ℤ asked.room) (sym same) low) (subst (λ (arc : Arc). AreApart arc.ships.bits asked.served.bits) (sym same) apart))
+        subst (Contains new) same (put.own (subst (λ (arc : Arc). AreApart arc.ships.bits asked.served.bits) (sym same) apart))
     | inr m ↦ put.kept (arc_at list k) (before.each k (earlier n k m.1 less) low apart)
   ];
 }
 
 low_or_more : (worth room : ℤ) → (worth ≤ℤ room) ⊎ (room <ℤ worth)
 low_or_more worth room = by_lt_z room worth (λ l. inr l) (λ g. inl g)
+
+-- no arc behind one above the room is within it
+pub within_early : (asked : ArcsAsked) (list : List Arc) (n : ℕ) (arcs : List Arc) → AreRising list → n < length list → asked.room <ℤ (arc_at list n).worth → AreWithin asked list n arcs → AreWithin asked list (length list) arcs
+within_early asked list n arcs are here more before = record {
+  each = λ k less low apart. elim (leb_tells (suc k) n) [
+    | inl y ↦ before.each k y.1 low apart
+    | inr q ↦ absurd (behind (arc_at list n).worth (arc_at list k).worth more (are.rising n k (omega (arith, q.1)) less) low)
+  ];
+}
+  where
+    behind : (first worth : ℤ) → asked.room <ℤ first → first ≤ℤ worth → worth ≤ℤ asked.room → ⊥
+    behind first worth more up low = omega (arith, ints, more, up, low)
+
+no_less : (a b : ℤ) → is_lt (int_cmp b a) ≡ false → a ≤ℤ b
+no_less a b h = go (int_cmp b a) (int_ranked b a (int_cmp b a) refl) h
+  where
+    go : (o : Ordering) → MatchOrdering o (b <ℤ a) (b ≡ a) (a <ℤ b) → is_lt o ≡ false → a ≤ℤ b
+    go Less less h = clash h
+    go Equal same h = omega (arith, ints, same)
+    go Greater more h = omega (arith, ints, more)
+
+pub rising-by : (arcs : List Arc) → IsSortedByKey (λ arc. arc.worth) int_cmp arcs → AreRising arcs
+rising-by arcs sorted = record {
+  rising = λ j k before here. no_less (arc_at arcs j).worth (arc_at arcs k).worth (sorted_far (λ (x y : Arc). is_lt (int_cmp x.worth y.worth)) (ranks_by int_cmp_total (λ (arc : Arc). arc.worth)) arcs sorted j k no_arc before here);
+}
+
+pub reached_by : (L : LineAsk) (asked : ArcsAsked) (range : Range) (spread gain : ℕ) → IsGainFrom L.instance L.chamber L.cuts (λ s. false) L.prices (stand_before asked.way) asked.minute gain
+    → range.way ≡ asked.way → range.minute ≡ asked.minute → (range.limit +ℤ pos gain) ≤ℤ pos spread → IsReached L range spread
+reached_by L asked range spread gain is way minute most = record {
+  gain = gain;
+  is = subst (λ way. IsGainFrom L.instance L.chamber L.cuts (λ s. false) L.prices (stand_before way) range.minute gain) (sym way)
+      (subst (λ minute. IsGainFrom L.instance L.chamber L.cuts (λ s. false) L.prices (stand_before asked.way) minute gain) (sym minute) is);
+  most = most;
+}
 
 pub asked_list : (L : LineAsk) (asked : ArcsAsked) (range : Range) (list : ArcList) → range.way ≡ asked.way → range.minute ≡ asked.minute → asked.room ≤ℤ range.limit → IsRangeList L range list → IsAskedList L asked list
 asked_list L asked range list way minute reach is = record {
@@ -204,21 +247,26 @@ module _ (L : LineAsk) (asked : ArcsAsked) where
       ]
 
   -- where all ships of the way's groups are served, no arc is asked for
-  pub served_none : (lane : WayLane) (arcs : List Arc) → IsWayOf L asked.way lane.all → HoldsAll asked.served.bits lane.all.ships.bits
+  pub served_none : (lane : WayArcs) (arcs : List Arc) → IsWayOf L asked.way lane.all → HoldsAll asked.served.bits lane.all.ships.bits
       → AreArcs L.instance L.cuts L.prices L.chamber asked.way asked.minute asked.served.bits asked.room arcs
-  served_none lane arcs are holds = record { whole = λ g uncut way missing. absurd (none g uncut way missing) }
+  served_none lane arcs are holds = record { whole = λ g uncut way missing. absurd (none (length g.ships) g (omega arith) uncut way missing) }
     where
-      none : (g : Group) → IsUncutIn L g → g.way ≡ asked.way → All (λ s. is_in asked.served.bits s ≡ false) g.ships → ⊥
-      none g uncut way missing =
-          let has = are.groups.whole g uncut way in
-          let at = has.held in
-          let one : GrownGroup = has.one in
-          let s : ℕ = slice_index_or g.ships 0 0 in
-          let mask : IsMask one.sums.mask one.group.ships = All-contains (λ (one : GrownGroup). IsMask one.sums.mask one.group.ships) lane.all.groups.items one (λ k d here. (are.groups.each k d here).mask) at in
-          let held : Contains g.ships s = (0, uncut.good.count.0, get_or_default g.ships 0 s 0 uncut.good.count.0) in
-          let own : is_in one.sums.mask s ≡ true = one-in one.sums.mask s (mask.has s (subst (λ (h : Group). Contains h.ships s) (sym has.is) held)) in
-          let joined : is_in lane.all.ships.bits s ≡ true = (are.ships.each at.0 one at.1).all s (subst (λ (one : GrownGroup). is_in one.sums.mask s ≡ true) (sym at.2) own) in
-          clash (sym (holds.all s joined) ∙ All-contains (λ s. is_in asked.served.bits s ≡ false) g.ships s missing held)
+      none : (n : ℕ) (g : Group) → length g.ships ≤ n → IsUncutIn L g → g.way ≡ asked.way → All (λ s. is_in asked.served.bits s ≡ false) g.ships → ⊥
+      none zero g small uncut way missing = omega (arith, small, uncut.good.count.0)
+      none (suc n) g small uncut way missing = elim (are.groups.whole g uncut way) [
+        | inr idle ↦
+            none n idle.others (omega (arith, small, ap length idle.joined, length-insert_number idle.ship idle.others.ships)) idle.uncut (idle.same ∙ way)
+            (All-weaker (Contains g.ships) (λ s. is_in asked.served.bits s ≡ false) (λ s held. All-contains (λ s. is_in asked.served.bits s ≡ false) g.ships s missing held) idle.others.ships idle.among)
+        | inl has ↦
+            let at = has.held in
+            let one : GrownGroup = has.one in
+            let s : ℕ = slice_index_or g.ships 0 0 in
+            let mask : IsMask one.sums.mask one.group.ships = All-contains (λ (one : GrownGroup). IsMask one.sums.mask one.group.ships) lane.all.groups.items one (λ k d here. (are.groups.each k d here).mask) at in
+            let held : Contains g.ships s = (0, uncut.good.count.0, get_or_default g.ships 0 s 0 uncut.good.count.0) in
+            let own : is_in one.sums.mask s ≡ true = one-in one.sums.mask s (mask.has s (subst (λ (h : Group). Contains h.ships s) (sym has.is) held)) in
+            let joined : is_in lane.all.ships.bits s ≡ true = (are.ships.each at.0 one at.1).all s (subst (λ (one : GrownGroup). is_in one.sums.mask s ≡ true) (sym at.2) own) in
+            clash (sym (holds.all s joined) ∙ All-contains (λ s. is_in asked.served.bits s ≡ false) g.ships s missing held)
+      ]
 
 module _ (L : LineAsk) (way : Way) where
   pub lists_none : (places : List (Option ℕ)) (lists : List ArcList) → ((minute : ℕ) → slice_index_or places minute None ≡ None) → AreListsBy L way places lists
@@ -239,7 +287,7 @@ module _ (L : LineAsk) (way : Way) where
     is = λ d. subst (IsArcList L way minute) (sym (get_or-append_seam lists list [] d)) is;
   }
 
-  pub lists_kept : (minute place : ℕ) (list : ArcList) (old new : WayLane) → IsArcList L way minute list → IsWayLane L way old → IsListKept minute list old new place → IsWayLane L way new
+  pub lists_kept : (minute place : ℕ) (list : ArcList) (old new : WayArcs) → IsArcList L way minute list → IsWayArcs L way old → IsListKept minute list old new place → IsWayArcs L way new
   lists_kept minute place list old new is lane kept = record {
     all = subst (IsWayOf L way) (sym kept.all) lane.all;
     lists = record { each = λ m p there. subst (λ lists. IsListAt L way m lists p) (sym kept.lists) (by m p there) };
@@ -254,7 +302,7 @@ module _ (L : LineAsk) (way : Way) where
         | inr o ↦ list-longer m p list old.lists.items (lane.lists.each m p (sym (kept.row.others m o.1) ∙ there))
       ]
 
-pub kept_wide : (asked : ArcsAsked) (place : ℕ) (list : ArcList) (old new : WayLane) → asked.room ≤ℤ list.limit → IsListKept asked.minute list old new place → IsWide asked new place
+pub kept_wide : (asked : ArcsAsked) (place : ℕ) (list : ArcList) (old new : WayArcs) → asked.room ≤ℤ list.limit → IsListKept asked.minute list old new place → IsWide asked new place
 kept_wide asked place list old new reach kept = record {
   kept = kept.row.own;
   reach = λ d.

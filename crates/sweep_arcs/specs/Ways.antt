@@ -1,17 +1,20 @@
 -- What a way of a chamber keeps: all its uncut groups, and by minute lists of their arcs.
-use Rattle.std.specs.Prelude.{ℕ, ℤ, ◌≡◌, ◌≤◌, ◌<◌, ◌≤ℤ◌, ◌⊎◌, Some, None, List, [], ◌∷◌, ◌++◌, length, All, Contains, slice_index_or}
+use Rattle.std.specs.Prelude.{ℕ, ℤ, pos, ◌+ℤ◌, ◌+◌, ◌*◌, min, false, ◌≡◌, ◌≤◌, ◌<◌, ◌≤ℤ◌, ◌⊎◌, Some, None, IfSome, List, [], ◌∷◌, ◌++◌, length, All, Contains, slice_index_or}
 use Rattle.std.specs.declared.option.Option.{Option}
 use Rattle.lock_model.specs.Fleet.{ship_at}
-use Rattle.lock_model.specs.declared.limits.TheConstants.{MOST, SHIPS}
+use Rattle.lock_model.specs.declared.limits.TheConstants.{MOST}
 use Rattle.lock_model.specs.declared.instance.Instance.{Instance}
 use Rattle.lock_model.specs.declared.group.Group.{Group}
 use Rattle.lock_model.specs.declared.way.Way.{Way}
+use Rattle.lock_rules.specs.Children.{insert_number}
+use Rattle.lock_rules.specs.Lawful.{stand_before}
 use Rattle.price_rules.specs.Prices.{price_at}
 use Rattle.price_groups.specs.Asks.{LineAsk, IsUncutIn}
 use Rattle.price_groups.specs.GrownLists.{HasGroup}
 use Rattle.price_groups.specs.Masks.{IsMask}
 use Rattle.price_groups.specs.Worth.{soonest_of}
 use Rattle.price_groups.specs.declared.grown_lists.GrownGroup.{GrownGroup}
+use Rattle.sweep_rules.specs.Gain.{IsGainFrom}
 use Rattle.sweep_labels.specs.declared.step.Arc.{Arc}
 use Rattle.sweep_labels.specs.Arcs.{IsArcBy, IsLowWorth, IsBeyond, arc_at}
 use Rattle.sweep_labels.specs.Rows.{IsKeptAt}
@@ -21,11 +24,13 @@ use Rattle.sweep_arcs.specs.declared.asked.ArcsAsked.{ArcsAsked}
 use Rattle.sweep_arcs.specs.declared.listing.Range.{Range}
 use Rattle.sweep_arcs.specs.declared.way_groups.Latest.{Latest}
 use Rattle.sweep_arcs.specs.declared.way_groups.WayGroups.{WayGroups}
+use Rattle.sweep_arcs.specs.declared.way_arcs.WayArcs.{WayArcs}
 use Rattle.sweep_arcs.specs.declared.way_lane.WayLane.{WayLane}
 
--- each price is the greatest there may be
-pub record AreHighest (prices : List ℕ) : Type 0 where
-  pub each : (s : ℕ) → s < SHIPS → price_at prices s ≡ 1000000
+-- of the first n ships the prices, raised by more than the spread as far as prices may be
+pub record AreCeilings (prices : List ℕ) (spread n : ℕ) (ceilings : List ℕ) : Type 0 where
+  pub each : (s : ℕ) → s < n → price_at ceilings s ≡ min 1000000 (price_at prices s + spread + 1)
+  pub fair : (s : ℕ) → s < n → price_at prices s ≤ 1000000
 
 -- none of the first n ships arrives later or is handled longer
 pub record AreBefore (I : Instance) (latest : Latest) (n : ℕ) : Type 0 where
@@ -43,19 +48,35 @@ pub record IsWayGroup (L : LineAsk) (way : Way) (one : GrownGroup) : Type 0 wher
   pub same : one.group.way ≡ way
   pub mask : IsMask one.sums.mask one.group.ships
 
--- all uncut groups of the way are among these
-pub record AreWayGroups (L : LineAsk) (way : Way) (groups : List GrownGroup) : Type 0 where
+-- The group is another uncut one of its way and a ship more, which even at the soonest end of all is served for more than its price and the spread.
+pub record IsIdleGroup (L : LineAsk) (spread : ℕ) (g : Group) : Type 0 where
+  pub others : Group
+  pub uncut : IsUncutIn L others
+  pub same : others.way ≡ g.way
+  pub among : All (Contains g.ships) others.ships
+  pub ship : ℕ
+  pub joined : insert_number ship others.ships ≡ g.ships
+  pub idle : price_at L.prices ship + spread + 100 * (ship_at L.instance ship).arrival < 100 * soonest_of L.instance L.chamber 0 g.ships
+
+-- all uncut groups of the way are among these but such ones
+pub record AreWayGroups (L : LineAsk) (way : Way) (spread : ℕ) (groups : List GrownGroup) : Type 0 where
   pub each : All (IsWayGroup L way) groups
-  pub whole : (g : Group) → IsUncutIn L g → g.way ≡ way → HasGroup groups g
+  pub whole : (g : Group) → IsUncutIn L g → g.way ≡ way → HasGroup groups g ⊎ IsIdleGroup L spread g
 
 -- all ships of the first n groups are in the set
 pub record AreJoined (groups : List GrownGroup) (n bits : ℕ) : Type 0 where
   pub each : (k : ℕ) (d : GrownGroup) → k < n → HoldsAll bits (slice_index_or groups k d).sums.mask
 
--- all uncut groups of the way, and their ships
+-- the uncut groups of the way, and their ships
 pub record IsWayOf (L : LineAsk) (way : Way) (all : WayGroups) : Type 0 where
-  pub groups : AreWayGroups L way all.groups.items
+  pub groups : AreWayGroups L way all.spread all.groups.items
   pub ships : AreJoined all.groups.items (length all.groups.items) all.ships.bits
+
+-- the limit and the gain from the minute on are no more than the spread
+pub record IsReached (L : LineAsk) (range : Range) (spread : ℕ) : Type 0 where
+  pub gain : ℕ
+  pub is : IsGainFrom L.instance L.chamber L.cuts (λ s. false) L.prices (stand_before range.way) range.minute gain
+  pub most : (range.limit +ℤ pos gain) ≤ℤ pos spread
 
 -- the arc is the group's, and its worth is low for it
 pub record IsArcWorth (L : LineAsk) (minute : ℕ) (g : Group) (arc : Arc) : Type 0 where
@@ -82,8 +103,13 @@ pub record IsPutArc (L : LineAsk) (range : Range) (g : Group) (old new : List Ar
 pub record ArePutArcs (L : LineAsk) (range : Range) (groups : List GrownGroup) (n : ℕ) (arcs : List Arc) : Type 0 where
   pub each : (k : ℕ) (d : GrownGroup) → k < n → 1 ≤ length (slice_index_or groups k d).group.ships → IsArcOrBeyond L range.minute range.limit arcs (slice_index_or groups k d).group
 
+-- the arcs stand by rising worth
+pub record AreRising (arcs : List Arc) : Type 0 where
+  pub rising : (j k : ℕ) → j ≤ k → k < length arcs → (arc_at arcs j).worth ≤ℤ (arc_at arcs k).worth
+
 -- each uncut group of the way has an arc of the list from the minute on, or is worth more than its limit
 pub record IsArcList (L : LineAsk) (way : Way) (minute : ℕ) (list : ArcList) : Type 0 where
+  pub rising : AreRising list.arcs.items
   pub whole : (g : Group) → IsUncutIn L g → g.way ≡ way → IsArcOrBeyond L minute list.limit list.arcs.items g
 
 -- the same of a range
@@ -106,27 +132,31 @@ pub record AreListsBy (L : LineAsk) (way : Way) (places : List (Option ℕ)) (li
   pub each : (minute place : ℕ) → slice_index_or places minute None ≡ Some place → IsListAt L way minute lists place
 
 -- what is kept of the way is right
-pub record IsWayLane (L : LineAsk) (way : Way) (lane : WayLane) : Type 0 where
+pub record IsWayArcs (L : LineAsk) (way : Way) (lane : WayArcs) : Type 0 where
   pub all : IsWayOf L way lane.all
   pub lists : AreListsBy L way lane.places.items.items lane.lists.items
 
+-- so it is, once something was asked of the way
+pub record IsWayLane (L : LineAsk) (way : Way) (lane : WayLane) : Type 0 where
+  pub right : IfSome lane.made (IsWayArcs L way)
+
 -- the list was put behind the others, and its place is kept for the minute
-pub record IsListKept (minute : ℕ) (list : ArcList) (old new : WayLane) (place : ℕ) : Type 0 where
+pub record IsListKept (minute : ℕ) (list : ArcList) (old new : WayArcs) (place : ℕ) : Type 0 where
   pub all : new.all ≡ old.all
   pub behind : place ≡ length old.lists.items
   pub lists : new.lists.items ≡ old.lists.items ++ list ∷ []
   pub row : IsKeptAt minute place old.places.items.items new.places.items.items
 
 -- the list at the place is that of the minute, and reaches as far as the room
-pub record IsWide (asked : ArcsAsked) (lane : WayLane) (place : ℕ) : Type 0 where
+pub record IsWide (asked : ArcsAsked) (lane : WayArcs) (place : ℕ) : Type 0 where
   pub kept : slice_index_or lane.places.items.items asked.minute None ≡ Some place
   pub reach : (d : ArcList) → asked.room ≤ℤ (slice_index_or lane.lists.items place d).limit
 
--- the arc was appended, or its worth is above the room, or one of its ships is served
+-- the arc was appended, or one of its ships is served
 pub record IsPutAsked (asked : ArcsAsked) (arc : Arc) (old new : List Arc) : Type 0 where
   pub kept : (other : Arc) → Contains old other → Contains new other
-  pub own : arc.worth ≤ℤ asked.room → AreApart arc.ships.bits asked.served.bits → Contains new arc
+  pub own : AreApart arc.ships.bits asked.served.bits → Contains new arc
 
--- the same of each of the first n arcs
+-- each of the first n arcs within the room by ships that aren't served is there
 pub record AreWithin (asked : ArcsAsked) (list : List Arc) (n : ℕ) (arcs : List Arc) : Type 0 where
   pub each : (k : ℕ) → k < n → (arc_at list k).worth ≤ℤ asked.room → AreApart (arc_at list k).ships.bits asked.served.bits → Contains arcs (arc_at list k)

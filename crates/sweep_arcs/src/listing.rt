@@ -1,13 +1,15 @@
 //! Arcs of a chamber and way from a minute on, listed.
 ghost use Rattle.std.specs.Prelude.{◌≡◌, ◌+◌, ◌*◌, ◌^◌, ◌≤◌, pos, ◌+ℤ◌, ◌≤ℤ◌, length, sum_by, IfOk, OnOk};
+ghost use Rattle.std.specs.List.Sorted.{IsPermutation};
 ghost use Rattle.lock_model.specs.declared.limits.TheConstants.{MOST};
 ghost use Rattle.price_rules.specs.Prices.{price_at};
 ghost use Rattle.price_groups.specs.Asked.{line_asked};
 ghost use Rattle.sweep_arcs.specs.Lanes.{gains_ask, AreGainsKept};
-ghost use Rattle.sweep_arcs.specs.Ways.{IsWayGroup, AreWayGroups, IsArcWorth, IsPutArc, IsRangeList};
+ghost use Rattle.sweep_arcs.specs.Ways.{IsWayGroup, IsWayOf, IsReached, IsArcWorth, IsPutArc, AreRising, IsRangeList};
 
 use crate::arc_list::ArcList;
 use crate::gains::{Gains, other_way, stand_before};
+use crate::way_groups::WayGroups;
 use chamber_times::{flow_until, group_times};
 use lock_model::{Ships, Way};
 use price_groups::{GrownGroup, LineCase};
@@ -15,7 +17,7 @@ use price_terms::{PriceError, append};
 use std::alloc::Global;
 use sweep_labels::{Arc, ShipSet, minute_of};
 
-/// From when on arcs of a way are listed, and up to which worth.
+/// From when on arcs of a way are listed, and up to which worth, in hundredths of a minute.
 #[derive(Clone, Copy)]
 pub(crate) struct Range {
     pub(crate) way: Way,
@@ -111,26 +113,40 @@ fn put_arc(
     append(arcs, arc)
 }
 
-#[tactic(auto, using(crate::proofs::ListLemmas::puts_first, crate::proofs::ListLemmas::puts_next, crate::proofs::ListLemmas::puts_done))]
-/// The arcs of all groups of a way from a minute on whose worth is no more than a limit.
+// Puts arcs of least worth first.
+fn least_first(arcs: &mut Vec<Arc>) -> Result<(), PriceError>
+    ensures same { OnOk result (IsPermutation arcs.old.items arcs.new.items) }
+    ensures rising { OnOk result (AreRising arcs.new.items) }
+{
+    match arcs.sort_by_key(|arc| arc.worth) {
+        Ok(()) => Ok(()),
+        Err(_) => Err(PriceError::NoMemory),
+    }
+}
+
+#[tactic(auto, using(crate::proofs::ListLemmas::puts_first, crate::proofs::ListLemmas::puts_next))]
+/// The arcs of all groups of a way from a minute on whose worth is no more than a limit, those of
+/// least worth first.
 pub(crate) fn listed(
     alloc: Global,
     case: &LineCase,
     gains: &mut Gains,
-    groups: &[GrownGroup],
+    all: &WayGroups,
     range: &Range,
 ) -> Result<ArcList, PriceError>
     requires kept { AreGainsKept gains.old }
     requires asked { gains_ask gains.old ≡ line_asked case.now }
-    requires groups { AreWayGroups (line_asked case.now) range.now.way groups.now }
+    requires all { IsWayOf (line_asked case.now) range.now.way all.now }
+    requires reached { IsReached (line_asked case.now) range.now all.now.spread }
     ensures same { gains_ask gains.new ≡ gains_ask gains.old }
     ensures kept { OnOk result (AreGainsKept gains.new) }
     ensures list { IfOk result (IsRangeList (line_asked case.now) range.now) }
 {
     let mut arcs = Vec::new(alloc);
-    for one in groups {
+    for one in &all.groups {
         put_arc(case, gains, range, &mut arcs, one)?;
     }
+    least_first(&mut arcs)?;
     Ok(ArcList {
         limit: range.limit,
         arcs,

@@ -1,14 +1,18 @@
-//! All uncut groups of a way.
-ghost use Rattle.std.specs.Prelude.{◌≡◌, ◌<◌, length, IsTrue, IfOk};
+//! The uncut groups of a way.
+ghost use Rattle.std.specs.Prelude.{◌≡◌, ◌+◌, ◌≤◌, min, length, IsTrue, IfOk};
+ghost use Rattle.lock_model.specs.declared.limits.TheConstants.{SHIPS};
 ghost use Rattle.price_terms.specs.Cuts.{plain_cuts};
 ghost use Rattle.price_groups.specs.Asked.{line_asked};
 ghost use Rattle.price_groups.specs.Growing.{AreBelow};
 ghost use Rattle.price_groups.specs.Masks.{AreAllCompletable};
 ghost use Rattle.price_groups.specs.Sparing.{AreForbidden};
-ghost use Rattle.sweep_arcs.specs.Ways.{AreHighest, AreBefore, IsBrief, AreWayGroups, AreJoined, IsWayOf};
+ghost use Rattle.sweep_arcs.specs.Ways.{AreCeilings, AreBefore, IsBrief, AreWayGroups, AreJoined, IsWayOf};
 
 use lock_model::{Group, Instance, MOST, SHIPS, Ships, Way};
-use price_groups::{CompletableSets, Extension, GrownGroup, LineCase, list_for, rates};
+use price_groups::{
+    CompletableSets, Extension, GrownGroup, LineCase, completable_by_ship, forbidden_sets,
+    list_for, rates,
+};
 use price_terms::{PriceError, Prices};
 use std::alloc::Global;
 use sweep_labels::ShipSet;
@@ -23,25 +27,52 @@ pub(crate) struct Latest {
     pub(crate) handling: u32,
 }
 
-/// All groups of a way that a chamber may serve and no cut hits, the empty one among them, and all their ships.
+/// What groups are grown for: a way, a spread in hundredths of a minute, and how many there may be.
+#[derive(Clone, Copy)]
+pub(crate) struct Growth {
+    pub(crate) way: Way,
+    pub(crate) spread: u64,
+    pub(crate) most: usize,
+}
+
+/// The groups of a way that a chamber may serve and no cut hits, the empty one among them, but for those of
+/// which a ship gains no more than what it costs and the spread; and the ships of all.
 #[derive(Drop)]
 pub(crate) struct WayGroups {
     pub(crate) groups: Vec<GrownGroup>,
     pub(crate) ships: ShipSet,
+    pub(crate) spread: u64,
 }
 
-#[tactic(auto, using(crate::proofs::GroupLemmas::highest_each))]
-// The greatest price of each ship, which no prices are above.
-fn highest(prices: &Prices) -> Result<Prices, PriceError>
-    ensures highest { IfOk result AreHighest }
-    ensures below { IfOk result (AreBelow prices.now) }
+// A price raised by more than the spread, as far as prices may be.
+fn ceiling(price: u32, spread: u64) -> u32
+    requires { price ≤ 1000000 }
+    ensures { result ≡ min 1000000 (price + spread + 1) }
+{
+    spread.saturating_add(price as u64 + 1).min(1_000_000) as u32
+}
+
+#[tactic(auto, using(crate::proofs::GroupLemmas::ceilings_first))]
+// The prices of all ships, raised by more than the spread.
+fn raised(prices: &Prices, spread: u64) -> [u32; SHIPS]
+    ensures long { length result ≡ SHIPS }
+    ensures are { AreCeilings prices.now spread SHIPS result }
+{
+    let mut high = [0; SHIPS];
+    for ship in 0..SHIPS {
+        high[ship] = ceiling(prices.at(ship as u8), spread);
+    }
+    high
+}
+
+// The same as prices.
+fn ceilings_of(prices: &Prices, spread: u64) -> Prices
+    ensures each { AreCeilings prices.now spread SHIPS result }
+    ensures below { AreBelow prices.now result }
 {
     let own = prices.as_slice();
     prove!(own.len() <= SHIPS);
-    match Prices::new(&[1_000_000; SHIPS]) {
-        Some(highest) => Ok(highest),
-        None => Err(PriceError::TooMany),
-    }
+    Prices::capped(&raised(prices, spread))
 }
 
 #[tactic(auto, using(crate::proofs::GroupLemmas::before_first, crate::proofs::GroupLemmas::before_next))]
@@ -81,22 +112,21 @@ fn ships_of(groups: &[GrownGroup]) -> ShipSet
     ships
 }
 
-// All groups of a way. Where ceilings are that high, no group is left out as it grows.
+// The groups, grown ship by ship where no ship gains nothing at the ceilings.
 fn grown(
     alloc: Global,
     case: &LineCase,
     sets: &[Ships],
     completable: &[CompletableSets],
-    way: Way,
-    most: usize,
+    growth: &Growth,
 ) -> Result<Vec<GrownGroup>, PriceError>
     requires sets { AreForbidden case.now.instance.now case.now.index (plain_cuts case.now.instance.now case.now.cuts.now) sets.now }
     requires completable { AreAllCompletable case.now.instance.now case.now.depth sets.now (length case.now.instance.now.ships) completable.now }
     requires root { case.now.depth ≡ 0 }
     requires brief { IsBrief (line_asked case.now) }
-    ensures { IfOk result (λ groups. AreWayGroups (line_asked case.now) way groups.items) }
+    ensures { IfOk result (λ groups. AreWayGroups (line_asked case.now) growth.now.way growth.now.spread groups.items) }
 {
-    let ceilings = highest(case.prices)?;
+    let ceilings = ceilings_of(case.prices, growth.spread);
     let own_rates = rates(alloc, case, case.prices)?;
     let high_rates = rates(alloc, case, &ceilings)?;
     let extension = Extension {
@@ -106,35 +136,40 @@ fn grown(
         rates: &own_rates,
         ceilings: &ceilings,
         high_rates: &high_rates,
-        most,
+        most: growth.most,
     };
     let ships = Ships::new();
-    let base = Group { way, ships };
+    let base = Group {
+        way: growth.way,
+        ships,
+    };
     let mut lists = Vec::new(alloc);
     let place = list_for(alloc, &mut lists, &extension, &base)?;
     Ok(lists.swap_remove(place).groups)
 }
 
 impl WayGroups {
-    /// All of a way. An instance whose groups may take 10,000 minutes is refused, and more groups than the most.
+    /// The groups of a way. An instance whose groups may take 10,000 minutes is refused, and more groups
+    /// than the most.
     pub(crate) fn new(
         alloc: Global,
         case: &LineCase,
-        sets: &[Ships],
-        completable: &[CompletableSets],
-        way: Way,
-        most: usize,
+        growth: &Growth,
     ) -> Result<WayGroups, PriceError>
-        requires sets { AreForbidden case.now.instance.now case.now.index (plain_cuts case.now.instance.now case.now.cuts.now) sets.now }
-        requires completable { AreAllCompletable case.now.instance.now case.now.depth sets.now (length case.now.instance.now.ships) completable.now }
-        requires root { case.now.depth ≡ 0 }
-        ensures { IfOk result (IsWayOf (line_asked case.now) way) }
+        requires { case.now.depth ≡ 0 }
+        ensures { IfOk result (IsWayOf (line_asked case.now) growth.now.way) }
     {
         if !is_brief(case) {
             return Err(PriceError::TooMany);
         }
-        let groups = grown(alloc, case, sets, completable, way, most)?;
+        let sets = forbidden_sets(alloc, case)?;
+        let completable = completable_by_ship(alloc, case, &sets)?;
+        let groups = grown(alloc, case, &sets, &completable, growth)?;
         let ships = ships_of(&groups);
-        Ok(WayGroups { groups, ships })
+        Ok(WayGroups {
+            groups,
+            ships,
+            spread: growth.spread,
+        })
     }
 }

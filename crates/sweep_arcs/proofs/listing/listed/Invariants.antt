@@ -9,5 +9,5 @@ invariant-loop-one l = record {
   kept : AreGainsKept l.gains;
   asked : gains_ask l.gains ≡ line_asked l.case;
   same : gains_ask l.gains ≡ gains_ask l.initial.gains;
-  puts : ArePutArcs (line_asked l.case) l.range l.groups l.one-index l.arcs.items;
+  puts : ArePutArcs (line_asked l.case) l.range l.all.groups.items l.one-index l.arcs.items;
 }

@@ -1,6 +1,6 @@
 use Rattle.price_groups.specs.Asked.{line_asked}
 use Rattle.sweep_arcs.proofs.ListLemmas.{lists_kept}
-use Rattle.sweep_arcs.proofs.way_lane.WayLane.place_for.Goals as goal
+use Rattle.sweep_arcs.proofs.way_arcs.WayArcs.place_for.Goals as goal
 
 pub returns-clause-lane : goal.returns-clause-lane
 returns-clause-lane c =
