@@ -1,5 +1,5 @@
 -- The values of the states of a chamber that has no line.
-use Rattle.std.specs.Prelude.{ℕ, ◌≡◌, ◌+◌, ◌≤◌, ℤ, Some, List, [], length, All}
+use Rattle.std.specs.Prelude.{ℕ, ◌≡◌, ◌≤◌, ℤ, Some, [], length}
 use Rattle.lock_model.specs.declared.way.Stand.{Stand}
 use Rattle.price_groups.specs.Asked.{line_asked}
 use Rattle.price_groups.specs.Asks.{LineAsk}

@@ -1,0 +1,4 @@
+pub mod GainLemmas
+pub mod ArrivalLemmas
+pub mod GroupLemmas
+pub mod ListLemmas
