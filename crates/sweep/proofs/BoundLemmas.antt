@@ -5,17 +5,15 @@ use Rattle.std.proofs.lemmas.Bool.Decides.{eqb_tells}
 use Rattle.std.proofs.lemmas.List.{length-set, get_or-set_same, get_or-set_other}
 use Rattle.std.proofs.lemmas.List.Elements.{filter-append}
 use Rattle.std.proofs.lemmas.List.Sums.{sum_by-append}
-use Rattle.lock_model.specs.declared.way.Way.{Way}
 use Rattle.lock_rules.specs.Arrival.{numbers_from}
 use Rattle.lock_rules.proofs.LineLemmas.{numbers_more}
 use Rattle.price_groups.specs.Asks.{LineAsk, line_ask}
-use Rattle.price_rules.specs.Prices.{price_at}
 use Rattle.sweep_rules.specs.Label.{Label}
-use Rattle.sweep_rules.specs.Gain.{IsGain, prices_missing}
+use Rattle.sweep_rules.specs.Gain.{IsGain}
 use Rattle.sweep_rules.proofs.OverLemmas.{sum-but_one}
 use Rattle.sweep_labels.specs.declared.label.Label.{Label as CodeLabel}
 use Rattle.sweep_labels.specs.declared.ready_times.ReadyTimes.{ReadyTimes}
-use Rattle.sweep_labels.specs.Labels.{label_of, ready_by, times_at}
+use Rattle.sweep_labels.specs.Labels.{label_of, times_at}
 use Rattle.sweep_labels.specs.Arcs.{IsGainBehind, gains_with}
 use Rattle.sweep_labels.proofs.ArcLemmas.{own-gain, other-gain}
 use Rattle.sweep_labels.specs.declared.step.Arc.{Arc}

@@ -39,7 +39,7 @@ pub count_more : {A : Type 0} (items : List A) (n : ℕ) (own : A) → length it
 count_more items n own count = length-append items (own ∷ []) ∙ ap (λ j. j + 1) count
 
 -- what a sweep begins with is sound
-pub sound_first : (case : SweepCase) (s : Sweeper) → AllArrive case.instance.now (cuts_of case) case.arrivals.items → AreLanes case s.lanes.items → s.made.labels.items.items ≡ [] → s.made.labels.are_open.items ≡ [] → IsSound case s
+pub sound_first : (case : SweepCase) (s : Sweeper) → AllArrive case.instance.now (cuts_of case) case.arrivals.items → AreLanes case s.lanes.now → s.made.labels.items.items ≡ [] → s.made.labels.are_open.items ≡ [] → IsSound case s
 sound_first case s arrive are items flags = record {
   arrive = arrive;
   lanes = are;

@@ -1,14 +1,13 @@
 -- A label goes on: each group by which it may leads to a label that is met.
-use Rattle.std.proofs.Common.{◌≡◌, ◌≢◌, ℕ, ℤ, pos, ◌+ℤ◌, ◌≤ℤ◌, ◌+◌, ◌*◌, ◌<◌, ◌≤◌, false, inl, inr, None, List, ◌++◌, length, sum_by, refl, sym, ap, ◌∙◌, subst, arith, slice_index_or}
+use Rattle.std.proofs.Common.{◌≡◌, ℕ, ℤ, pos, ◌+ℤ◌, ◌≤ℤ◌, ◌+◌, ◌*◌, ◌<◌, ◌≤◌, false, inl, inr, None, List, length, sum_by, refl, sym, ap, ◌∙◌, subst, arith, slice_index_or}
 use Rattle.std.proofs.lemmas.List.{get_or_append_left}
 use Rattle.lock_model.specs.declared.group.Group.{Group}
 use Rattle.lock_model.specs.declared.way.Way.{Way}
 use Rattle.lock_rules.specs.Arrival.{numbers_from}
-use Rattle.price_rules.specs.Prices.{price_at}
 use Rattle.sweep_rules.specs.Uncut.{IsSwept}
 use Rattle.sweep_rules.specs.Label.{Label, CanGoOn, IsGoneOn, gone_on}
 use Rattle.sweep_rules.specs.Completion.{EndsBelow}
-use Rattle.sweep_rules.specs.Gain.{IsGain, IsAbove, prices_missing}
+use Rattle.sweep_rules.specs.Gain.{IsGain, prices_missing}
 use Rattle.sweep_rules.specs.Treated.{IsTreated, label_at}
 use Rattle.sweep_rules.proofs.GainLemmas.{above-none, missing-paid}
 use Rattle.sweep_rules.proofs.GoingLemmas.{gone_on-is}
@@ -22,14 +21,14 @@ use Rattle.sweep_labels.specs.Putting.{open_at}
 use Rattle.sweep_labels.specs.Labels.{ready_by, times_at, label_of}
 use Rattle.sweep_labels.specs.Steps.{IsStepBy}
 use Rattle.sweep_labels.specs.Sweeping.{labels_of}
-use Rattle.sweep_labels.specs.Arcs.{IsArcBy, AreArcs, HasArc, IsBeyond, IsLowWorth, arc_at, gains_with}
+use Rattle.sweep_labels.specs.Arcs.{IsArcBy, AreArcs, IsBeyond, IsLowWorth, gains_with}
 use Rattle.sweep_labels.proofs.ArcLemmas.{own-gain, other-gain, arc-beyond}
 use Rattle.sweep_labels.proofs.SweepingLemmas.{label-at, closed-swept}
 use Rattle.sweep.specs.declared.sweep_case.SweepCase.{SweepCase}
 use Rattle.sweep.specs.declared.origin.Origin.{Origin}
 use Rattle.sweep.specs.declared.sweeper.Sweeper.{Sweeper}
-use Rattle.sweep.specs.Bounds.{cuts_of, AreLanes, gain_in, AreGains, IsBoundAbove, IsOrigin, IsRoom}
-use Rattle.sweep.specs.Going.{IsSound, IsGrown, IsFurther, IsMetBy, IsBegun, IsLedOn, IsArcOn, IsArcLed, AreArcsLed, IsWayLed, AreLed}
+use Rattle.sweep.specs.Bounds.{cuts_of, gain_in, AreGains, IsBoundAbove, IsOrigin, IsRoom}
+use Rattle.sweep.specs.Going.{IsGrown, IsFurther, IsMetBy, IsBegun, IsLedOn, IsArcOn, IsArcLed, AreArcsLed, IsWayLed, AreLed}
 use Rattle.sweep.proofs.GrownLemmas.{met_on, led_on}
 
 module _ (case : SweepCase) where

@@ -1,12 +1,12 @@
 -- What was met stays so as a sweep goes on.
-use Rattle.std.proofs.Common.{◌≡◌, ◌≢◌, ℕ, ◌+◌, ◌<◌, ◌≤◌, false, inl, inr, List, [], ◌++◌, length, refl, sym, ap, ◌∙◌, subst, arith, slice_index_or, slice_set, append-nil, append_assoc, length-append}
-use Rattle.std.proofs.lemmas.List.{length-set, get_or_append_left}
+use Rattle.std.proofs.Common.{◌≡◌, ◌≢◌, ℕ, ◌+◌, ◌<◌, false, inl, inr, List, [], ◌++◌, length, refl, sym, ap, ◌∙◌, subst, arith, slice_set, append-nil, append_assoc}
+use Rattle.std.proofs.lemmas.List.{length-set}
 use Rattle.std.proofs.lemmas.Bool.Decides.{eqb_tells}
 use Rattle.lock_model.specs.declared.group.Group.{Group}
 use Rattle.lock_model.specs.declared.way.Way.{Way}
 use Rattle.lock_model.specs.declared.way.Way.TheVariants.{Up, Down}
 use Rattle.sweep_rules.specs.Label.{Label, CanGoOn}
-use Rattle.sweep_rules.specs.Treated.{IsTreated, label_at}
+use Rattle.sweep_rules.specs.Treated.{IsTreated}
 use Rattle.sweep_labels.specs.declared.label.Label.{Label as CodeLabel}
 use Rattle.sweep_labels.specs.declared.label.KeptLabel.{KeptLabel}
 use Rattle.sweep_labels.specs.declared.made.Made.{Made}
@@ -16,7 +16,7 @@ use Rattle.sweep_labels.specs.Sweeping.{labels_of, AreTreated}
 use Rattle.sweep_labels.specs.Made.{HasGrown, IsKept}
 use Rattle.sweep_labels.specs.Arcs.{arc_at}
 use Rattle.sweep_labels.proofs.MadeLemmas.{met_grown}
-use Rattle.sweep_labels.proofs.SweepingLemmas.{label-at, closed-treated}
+use Rattle.sweep_labels.proofs.SweepingLemmas.{closed-treated}
 use Rattle.sweep.specs.declared.sweep_case.SweepCase.{SweepCase}
 use Rattle.sweep.specs.declared.sweeper.Sweeper.{Sweeper}
 use Rattle.sweep.specs.Bounds.{cuts_of, AreLanes}
@@ -34,7 +34,7 @@ grown_more a b c f g h first second = record {
 
 module _ (case : SweepCase) where
   -- the sweep with other things changed than its lanes and labels is as sound, and as far on
-  pub sound_same : (s t : Sweeper) → IsSound case s → AreLanes case t.lanes.items → t.made ≡ s.made → IsSound case t
+  pub sound_same : (s t : Sweeper) → IsSound case s → AreLanes case t.lanes.now → t.made ≡ s.made → IsSound case t
   sound_same s t sound lanes made = record {
     arrive = sound.arrive;
     lanes = lanes;
@@ -42,7 +42,7 @@ module _ (case : SweepCase) where
     treated = subst (λ (made : Made). AreTreated case.instance.now (cuts_of case) made.goal made.labels.items.items made.labels.are_open.items) (sym made) sound.treated;
   }
 
-  pub further_same : (s t : Sweeper) → IsSound case s → AreLanes case t.lanes.items → t.made ≡ s.made → IsFurther case s t
+  pub further_same : (s t : Sweeper) → IsSound case s → AreLanes case t.lanes.now → t.made ≡ s.made → IsFurther case s t
   further_same s t sound lanes made = record {
     sound = sound_same s t sound lanes made;
     grown = subst (IsGrown s.made) (sym made) (grown_none s.made.labels.items.items s.made.goal);
@@ -98,7 +98,7 @@ module _ (case : SweepCase) where
   }
 
   -- a label is kept
-  pub kept_further : (s t : Sweeper) (l : KeptLabel) → IsSound case s → AreLanes case t.lanes.items
+  pub kept_further : (s t : Sweeper) (l : KeptLabel) → IsSound case s → AreLanes case t.lanes.now
       → IsKept l s.made.labels.items.items s.made.labels.are_open.items s.made.goal t.made.labels.items.items t.made.labels.are_open.items t.made.goal → IsFurther case s t
   kept_further s t l sound lanes kept = record {
     sound = record {
@@ -111,7 +111,7 @@ module _ (case : SweepCase) where
   }
 
   -- a treated label is closed
-  pub closed_further : (s t : Sweeper) (n : ℕ) → IsSound case s → AreLanes case t.lanes.items → t.made.goal ≡ s.made.goal → t.made.labels.items.items ≡ s.made.labels.items.items
+  pub closed_further : (s t : Sweeper) (n : ℕ) → IsSound case s → AreLanes case t.lanes.now → t.made.goal ≡ s.made.goal → t.made.labels.items.items ≡ s.made.labels.items.items
       → t.made.labels.are_open.items ≡ slice_set s.made.labels.are_open.items n false
       → IsTreated case.instance.now (cuts_of case) s.made.goal (labels_of s.made.labels.items.items) n → IsFurther case s t
   closed_further s t n sound lanes goal items flags treated = record {

@@ -19,7 +19,7 @@ use Rattle.sweep.specs.Bounds.{cuts_of, AreLanes}
 -- The lanes are the chambers of the case, the ships that these wait for are listed, and each label is open or treated.
 pub record IsSound (case : SweepCase) (s : Sweeper) : Type 0 where
   pub arrive : AllArrive case.instance.now (cuts_of case) case.arrivals.items
-  pub lanes : AreLanes case s.lanes.items
+  pub lanes : AreLanes case s.lanes.now
   pub level : length s.made.labels.are_open.items ≡ length s.made.labels.items.items
   pub treated : AreTreated case.instance.now (cuts_of case) s.made.goal s.made.labels.items.items s.made.labels.are_open.items
 

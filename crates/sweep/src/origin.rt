@@ -1,5 +1,5 @@
 //! Labels that go on, and what prices bound behind labels.
-ghost use Rattle.std.specs.Prelude.{ℕ, ◌≡◌, ◌+◌, ◌*◌, ◌<◌, length, sum_by, IsTrue, IfOk, OnOk};
+ghost use Rattle.std.specs.Prelude.{◌≡◌, ◌+◌, ◌*◌, ◌<◌, length, sum_by, IsTrue, IfOk, OnOk};
 ghost use Rattle.lock_rules.specs.Arrival.{numbers_from};
 ghost use Rattle.sweep_rules.specs.Gain.{prices_missing};
 ghost use Rattle.sweep_labels.specs.Ships.{is_in};
@@ -28,29 +28,28 @@ pub(crate) struct Origin {
 // The gain of a chamber behind a label that has these minutes of it.
 fn gain_by(
     case: &SweepCase,
-    lanes: &mut Vec<Lane>,
+    lanes: &mut [Lane],
     chamber: usize,
     times: &ReadyTimes,
 ) -> Result<u64, PriceError>
-    requires lanes { AreLanes case.now lanes.old.items }
+    requires lanes { AreLanes case.now lanes.old }
     requires chamber { chamber < length case.now.instance.now.chambers }
-    ensures lanes { OnOk result (AreLanes case.now lanes.new.items) }
+    ensures lanes { OnOk result (AreLanes case.now lanes.new) }
     ensures gain { IfOk result (IsGainBehind case.now.instance.now (cuts_of case.now) case.now.prices.now chamber times.now) }
 {
     let lane = &mut lanes[chamber];
-    let gain = lane.gain(times)?;
-    Ok(gain)
+    lane.gain(times)
 }
 
 #[tactic(auto, using(crate::proofs::BoundLemmas::gains_none, crate::proofs::BoundLemmas::gains_more))]
 /// The gains of all chambers behind a label.
 pub(crate) fn gains_of(
     case: &SweepCase,
-    lanes: &mut Vec<Lane>,
+    lanes: &mut [Lane],
     label: &Label,
 ) -> Result<[u64; CHAMBERS], PriceError>
-    requires { AreLanes case.now lanes.old.items }
-    ensures lanes { OnOk result (AreLanes case.now lanes.new.items) }
+    requires { AreLanes case.now lanes.old }
+    ensures lanes { OnOk result (AreLanes case.now lanes.new) }
     ensures gains { IfOk result (AreGains case.now (label_of label.now)) }
 {
     let mut gains = [0; CHAMBERS];

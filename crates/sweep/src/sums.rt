@@ -1,5 +1,5 @@
 //! Sums in hundredths of a minute, exact or refused.
-ghost use Rattle.std.specs.Prelude.{◌≡◌, ◌+◌, ◌-◌, ◌*◌, ◌≤◌, pos, ◌-ℤ◌, IfOk};
+ghost use Rattle.std.specs.Prelude.{◌≡◌, ◌+◌, ◌-◌, ◌*◌, pos, ◌-ℤ◌, IfOk};
 
 use price_terms::PriceError;
 

@@ -1,5 +1,5 @@
 //! A sweep in work.
-ghost use Rattle.std.specs.Prelude.{ℕ, ◌≡◌, ◌+◌, ◌<◌, ◌≤◌, false, length, slice_index_or, IfOk, OnOk};
+ghost use Rattle.std.specs.Prelude.{ℕ, ◌≡◌, ◌<◌, false, length, slice_index_or, IfOk, OnOk};
 ghost use Rattle.sweep_rules.specs.Treated.{IsTreated};
 ghost use Rattle.sweep_labels.specs.Ships.{is_in};
 ghost use Rattle.sweep_labels.specs.Putting.{open_at};
@@ -15,14 +15,13 @@ use crate::sweep_case::SweepCase;
 use lock_model::Way;
 use price_terms::PriceError;
 use sweep_arcs::{ArcsAsked, Lane};
-use sweep_labels::{Arc, KeptLabel, Label, Made, Queue, Step};
-use sweep_labels::{are_closed, first_label, gone_on};
+use sweep_labels::{Arc, KeptLabel, Label, Made, Queue, Step, are_closed, first_label, gone_on};
 
 /// The chambers, the labels that were made and what is to be swept, those that are open, and how far arcs
 /// are listed.
 #[derive(Drop)]
-pub(crate) struct Sweeper<'a> {
-    pub(crate) lanes: Vec<Lane<'a>>,
+pub(crate) struct Sweeper<'s, 'a> {
+    pub(crate) lanes: &'s mut [Lane<'a>],
     pub(crate) made: Made,
     pub(crate) queue: Queue,
     pub(crate) spread: i64,
@@ -32,18 +31,17 @@ pub(crate) struct Sweeper<'a> {
 // The arcs of a chamber that are asked for.
 fn arcs_of(
     case: &SweepCase,
-    lanes: &mut Vec<Lane>,
+    lanes: &mut [Lane],
     chamber: usize,
     asked: &ArcsAsked,
 ) -> Result<Vec<Arc>, PriceError>
-    requires lanes { AreLanes case.now lanes.old.items }
+    requires lanes { AreLanes case.now lanes.old }
     requires chamber { chamber < length case.now.instance.now.chambers }
-    ensures lanes { OnOk result (AreLanes case.now lanes.new.items) }
+    ensures lanes { OnOk result (AreLanes case.now lanes.new) }
     ensures arcs { IfOk result (λ arcs. AreArcsAsked case.now chamber asked.now arcs.items) }
 {
     let lane = &mut lanes[chamber];
-    let arcs = lane.arcs(asked)?;
-    Ok(arcs)
+    lane.arcs(asked)
 }
 
 // Puts a label that is open to the queue.
@@ -54,7 +52,7 @@ fn put_to(queue: &mut Queue, number: Option<u32>, kept: &KeptLabel) -> Result<()
     }
 }
 
-impl Sweeper<'_> {
+impl Sweeper<'_, '_> {
     #[tactic(auto, using(crate::proofs::GrownLemmas::kept_further))]
     // Keeps a label.
     fn keep(&mut self, case: &SweepCase, kept: KeptLabel) -> Result<(), PriceError>
@@ -81,7 +79,7 @@ impl Sweeper<'_> {
         ensures led { OnOk result (IsArcLed case.now self.new.made from.now.label step.now.chamber step.now.way step.now.arc) }
     {
         let label = gone_on(case.instance, &case.arrivals, &from.label, step)?;
-        let gains = gains_of(case, &mut self.lanes, &label)?;
+        let gains = gains_of(case, self.lanes, &label)?;
         let missing = less(from.missing, step.arc.prices)?;
         let above = is_above(case, &label, missing, &gains, self.made.goal)?;
         if above {
@@ -145,7 +143,7 @@ impl Sweeper<'_> {
             room,
             spread: self.spread,
         };
-        let arcs = arcs_of(case, &mut self.lanes, place, &asked)?;
+        let arcs = arcs_of(case, self.lanes, place, &asked)?;
         self.go_by_arcs(case, from, chamber, way, &arcs)?;
         Ok(())
     }
@@ -223,7 +221,7 @@ impl Sweeper<'_> {
             return Err(PriceError::TooMany);
         };
         let missing = missing_prices(case, &label.served)?;
-        let gains = gains_of(case, &mut self.lanes, &label)?;
+        let gains = gains_of(case, self.lanes, &label)?;
         let from = Origin {
             number,
             label,
@@ -284,7 +282,7 @@ impl Sweeper<'_> {
     {
         let label = first_label(case.instance, &case.arrivals)?;
         let missing = missing_prices(case, &label.served)?;
-        let gains = gains_of(case, &mut self.lanes, &label)?;
+        let gains = gains_of(case, self.lanes, &label)?;
         self.spread = spread_of(case, &label, missing, &gains, self.made.goal)?;
         let kept = KeptLabel {
             label,

@@ -123,12 +123,12 @@ fn swept<'a>(
     alloc: Global,
     asked: &SweepAsked<'a>,
     case: &SweepCase,
-    lanes: Vec<Lane>,
+    lanes: &mut [Lane],
 ) -> Result<SweepOutcome<'a>, PriceError>
     requires arrive { AllArrive case.now.instance.now (cuts_of case.now) case.now.arrivals.items }
     requires instance { case.now.instance.now ≡ asked.now.instance.now }
     requires cuts { case.now.cuts.now ≡ asked.now.cuts.now }
-    requires lanes { AreLanes case.now lanes.items }
+    requires lanes { AreLanes case.now lanes.old }
     ensures { IfOk result (λ sweep. IsSweepEnd asked.now sweep.end) }
 {
     let mut sweeper = Sweeper {
@@ -155,7 +155,7 @@ pub fn sweep<'a>(
     ensures { IfOk result (λ sweep. IsSweepEnd asked.now sweep.end) }
 {
     let cases = cases_of(alloc, asked)?;
-    let lanes = lanes_of(alloc, asked, &cases, limits)?;
+    let mut lanes = lanes_of(alloc, asked, &cases, limits)?;
     let arrivals = arrivals_of(alloc, asked, &lanes)?;
     let case = SweepCase {
         instance: asked.instance,
@@ -164,5 +164,5 @@ pub fn sweep<'a>(
         arrivals,
         most: limits.labels,
     };
-    swept(alloc, asked, &case, lanes)
+    swept(alloc, asked, &case, &mut lanes)
 }

@@ -6,7 +6,7 @@ use Rattle.sweep.proofs.origin.gains_of.Given as goal
 
 abbrev pub invariant-loop-chamber : goal.invariant-loop-chamber
 invariant-loop-chamber l = record {
-  lanes : AreLanes l.case l.lanes.items;
+  lanes : AreLanes l.case l.lanes;
   room : length l.gains ≡ CHAMBERS;
   all : AreGainsTo l.case (label_of l.label) l.chamber l.gains;
 }

@@ -17,7 +17,7 @@ returns-clause-begun c =
     let case = c.args.case.now in
     let listed : c.deref.result.now ≡ case.arrivals.items = search rules in
     record {
-  first = label_of c.in_ok-label.label;
-  is = c.in_ok-label.ensures (cuts_of case) (subst (AllArrive case.instance.now (cuts_of case)) (sym listed) c.requires.arrive);
-  met = c.in_ok-keep.ensures.met;
-}
+      first = label_of c.in_ok-label.label;
+      is = c.in_ok-label.ensures (cuts_of case) (subst (AllArrive case.instance.now (cuts_of case)) (sym listed) c.requires.arrive);
+      met = c.in_ok-keep.ensures.met;
+    }

@@ -1,4 +1,5 @@
-use Rattle.std.proofs.Common.{◌≡◌, length, refl, sym, subst, rules}
+use Rattle.std.proofs.Common.{◌≡◌, SFits, w64, length, refl, subst, rules}
+use Rattle.std.proofs.lemmas.Int.{to_z-of_z}
 use Rattle.sweep_labels.specs.Arcs.{AreArcs}
 use Rattle.sweep_labels.specs.Labels.{ready_by, times_at}
 use Rattle.sweep.specs.Bounds.{cuts_of}
@@ -12,9 +13,12 @@ returns-clause-led c =
     let case = c.args.case.now in
     let from = c.args.from.now in
     let arcs = c.in_ok-arcs.arcs.items in
+    let room = c.in_ok-room.room in
+    let fits : SFits w64 room = search rules in
     let further = further_more case _ _ _ (further_same case _ _ c.requires.sound c.in_ok-arcs.ensures.lanes refl) c.in_ok-go_by_arcs.ensures.further in
     let minute : c.by-minute.result ≡ ready_by (times_at from.label.ready c.args.chamber) c.args.way = search rules in
     let listed : c.deref.result.now ≡ arcs = search rules in
-    way_led case c.args.self.now.made c.go_by_arcs.new.self.made from c.args.chamber c.args.way c.in_ok-room.room arcs further.grown c.requires.origin c.in_ok-room.ensures
-    (subst (λ minute. AreArcs case.instance.now (cuts_of case) case.prices.now c.args.chamber c.args.way minute from.label.served.bits c.in_ok-room.room arcs) minute c.in_ok-arcs.ensures.arcs)
+    way_led case c.args.self.now.made c.go_by_arcs.new.self.made from c.args.chamber c.args.way room arcs further.grown c.requires.origin c.in_ok-room.ensures
+    (subst (λ minute. AreArcs case.instance.now (cuts_of case) case.prices.now c.args.chamber c.args.way minute from.label.served.bits room arcs) minute
+    (subst (λ room. AreArcs case.instance.now (cuts_of case) case.prices.now c.args.chamber c.args.way c.by-minute.result from.label.served.bits room arcs) (to_z-of_z w64 room fits) c.in_ok-arcs.ensures.arcs))
     (subst (λ arcs. AreArcsLed case c.go_by_arcs.new.self.made from.label c.args.chamber c.args.way (length arcs) arcs) listed c.in_ok-go_by_arcs.ensures.led)

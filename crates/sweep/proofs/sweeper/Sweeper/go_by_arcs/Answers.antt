@@ -1,6 +1,4 @@
-use Rattle.std.proofs.Common.{◌≡◌, ◌<◌, length, refl, sym, subst, arith}
-use Rattle.sweep.specs.Going.{IsArcLed, AreArcsLed}
-use Rattle.sweep_labels.specs.Arcs.{arc_at}
+use Rattle.std.proofs.Common.{refl}
 use Rattle.sweep.proofs.GrownLemmas.{further_same, further_more, arcs_led_none, arcs_led_more}
 use Rattle.sweep.proofs.sweeper.Sweeper.go_by_arcs.Goals as goal
 

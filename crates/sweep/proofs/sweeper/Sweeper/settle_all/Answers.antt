@@ -6,4 +6,7 @@ pub loop-init : goal.loop-init
 loop-init c = further_same c.args.case.now _ _ c.requires c.requires.lanes refl
 
 pub loop-preserved : goal.loop-preserved
-loop-preserved c = further_more c.args.case.now _ _ _ c.loop.invariant c.in_ok-settle-in-Some.ensures
+loop-preserved c =
+    let sound = c.loop.invariant.sound in
+    further_more c.args.case.now _ _ _ c.loop.invariant
+    (further_more c.args.case.now _ _ _ (further_same c.args.case.now _ _ sound sound.lanes refl) c.in_ok-settle-in-Some.ensures)
