@@ -2,3 +2,4 @@ pub mod GainLemmas
 pub mod ArrivalLemmas
 pub mod GroupLemmas
 pub mod ListLemmas
+pub mod BeyondLemmas

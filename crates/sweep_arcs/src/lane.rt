@@ -9,7 +9,7 @@ use crate::asked::{ArcLimits, ArcsAsked};
 use crate::gains::Gains;
 use crate::way_lane::WayLane;
 use lock_model::{Ships, Way};
-use price_groups::{LineCase, completable_by_ship, forbidden_sets};
+use price_groups::{LineCase, forbidden_sets};
 use price_terms::PriceError;
 use std::alloc::Global;
 use sweep_labels::{Arc, Arrivals, ReadyTimes};
@@ -26,8 +26,7 @@ pub struct Lane<'a> {
 }
 
 impl<'a> Lane<'a> {
-    /// The chamber of a case that has no line, of which nothing is asked yet. Refused are want of memory,
-    /// and more groups than the limits allow.
+    /// The chamber of a case that has no line, of which nothing is asked yet. Refused is want of memory.
     pub fn new(
         alloc: Global,
         case: &'a LineCase<'a>,
@@ -39,10 +38,9 @@ impl<'a> Lane<'a> {
         ensures asked { IfOk result (λ lane. ask_of lane ≡ line_asked case.now) }
     {
         let sets = forbidden_sets(alloc, case)?;
-        let completable = completable_by_ship(alloc, case, &sets)?;
         let gains = Gains::new(alloc, case, &limits)?;
-        let up = WayLane::new(alloc, case, &sets, &completable, Way::Up, limits.groups)?;
-        let down = WayLane::new(alloc, case, &sets, &completable, Way::Down, limits.groups)?;
+        let up = WayLane::new(limits.groups);
+        let down = WayLane::new(limits.groups);
         Ok(Lane {
             alloc,
             case,
@@ -68,7 +66,8 @@ impl<'a> Lane<'a> {
     }
 
     /// The arcs that are asked for: each uncut group of the way by ships that aren't served has one, unless
-    /// it is worth more than the room. Refused are want of memory, and more turns than the limits allow.
+    /// it is worth more than the room. Refused are want of memory, more groups or turns than the limits
+    /// allow, and a room that with the gain from the minute on is above the spread.
     pub fn arcs(&mut self, asked: &ArcsAsked) -> Result<Vec<Arc>, PriceError>
         requires { IsLane self.old }
         ensures same { OnOk result (IsSameLane self.old self.new) }

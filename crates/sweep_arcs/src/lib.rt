@@ -19,6 +19,7 @@ mod asked;
 mod gains;
 mod lane;
 mod listing;
+mod way_arcs;
 mod way_groups;
 mod way_lane;
 
