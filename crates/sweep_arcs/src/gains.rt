@@ -81,8 +81,8 @@ impl<'a> Gains<'a> {
         })
     }
 
-    #[inline(always)]
     // What is kept for a way and a minute.
+    #[inline(always)]
     fn kept(&self, way: Way, minute: u64) -> Option<u64>
         requires { AreGainsKept self.now }
         ensures { IfSome result (IsGainAt (gains_ask self.now) way minute) }
@@ -119,8 +119,8 @@ impl<'a> Gains<'a> {
         Ok(gain)
     }
 
-    #[inline(always)]
     // The gain of a way and a minute that isn't past the horizon.
+    #[inline(always)]
     fn early(&mut self, way: Way, minute: u64) -> Result<u64, PriceError>
         requires kept { AreGainsKept self.old }
         requires minute { minute ≤ 14000000 }
@@ -134,9 +134,9 @@ impl<'a> Gains<'a> {
         }
     }
 
-    #[inline(always)]
     /// The gain where the chamber stands for a way and is free at a minute: no way to go on pays more than
     /// that beyond 100 times its flow time. Past the horizon it is what it is there.
+    #[inline(always)]
     pub(crate) fn at(&mut self, way: Way, minute: u64) -> Result<u64, PriceError>
         requires { AreGainsKept self.old }
         ensures same { gains_ask self.new ≡ gains_ask self.old }

@@ -51,10 +51,10 @@ impl<'a> Lane<'a> {
         })
     }
 
-    #[inline(always)]
     /// The gain of the chamber behind a label that has these minutes of it: no way to go on by missing ships
     /// pays more than that beyond 100 times its flow time. Refused are want of memory and more turns than
     /// the limits allow.
+    #[inline(always)]
     pub fn gain(&mut self, times: &ReadyTimes) -> Result<u64, PriceError>
         requires { IsLane self.old }
         ensures same { OnOk result (IsSameLane self.old self.new) }

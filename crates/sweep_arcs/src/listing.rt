@@ -87,8 +87,8 @@ fn arc_of(
     })
 }
 
-#[tactic(auto, using(crate::proofs::ListLemmas::put_none, crate::proofs::ListLemmas::put_beyond, crate::proofs::ListLemmas::put_own))]
 // Appends the arc of a group that isn't empty, where its worth is within the range.
+#[tactic(auto, using(crate::proofs::ListLemmas::put_none, crate::proofs::ListLemmas::put_beyond, crate::proofs::ListLemmas::put_own))]
 fn put_arc(
     case: &LineCase,
     gains: &mut Gains,
@@ -124,9 +124,9 @@ fn least_first(arcs: &mut Vec<Arc>) -> Result<(), PriceError>
     }
 }
 
-#[tactic(auto, using(crate::proofs::ListLemmas::puts_first, crate::proofs::ListLemmas::puts_next))]
 /// The arcs of all groups of a way from a minute on whose worth is no more than a limit, those of
 /// least worth first.
+#[tactic(auto, using(crate::proofs::ListLemmas::puts_first, crate::proofs::ListLemmas::puts_next))]
 pub(crate) fn listed(
     alloc: Global,
     case: &LineCase,

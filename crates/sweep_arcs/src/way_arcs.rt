@@ -22,8 +22,8 @@ pub(crate) struct WayArcs {
     pub(crate) lists: Vec<ArcList>,
 }
 
-#[tactic(auto, using(crate::proofs::ListLemmas::asked_shared, crate::proofs::ListLemmas::asked_put))]
 // Appends an arc by ships that aren't served.
+#[tactic(auto, using(crate::proofs::ListLemmas::asked_shared, crate::proofs::ListLemmas::asked_put))]
 fn put_asked(arcs: &mut Vec<Arc>, arc: &Arc, asked: &ArcsAsked) -> Result<(), PriceError>
     ensures { OnOk result (IsPutAsked asked.now arc.now arcs.old.items arcs.new.items) }
 {
@@ -34,8 +34,8 @@ fn put_asked(arcs: &mut Vec<Arc>, arc: &Arc, asked: &ArcsAsked) -> Result<(), Pr
     Ok(())
 }
 
-#[tactic(auto, using(crate::proofs::ListLemmas::within_first, crate::proofs::ListLemmas::within_next, crate::proofs::ListLemmas::within_early))]
 // Those arcs of a list that are asked for.
+#[tactic(auto, using(crate::proofs::ListLemmas::within_first, crate::proofs::ListLemmas::within_next, crate::proofs::ListLemmas::within_early))]
 fn within(alloc: Global, list: &ArcList, asked: &ArcsAsked) -> Result<Vec<Arc>, PriceError>
     requires { AreRising list.now.arcs.items }
     ensures { IfOk result (λ arcs. AreWithin asked.now list.now.arcs.items (length list.now.arcs.items) arcs.items) }
@@ -74,8 +74,8 @@ fn range_of(asked: &ArcsAsked, spread: u64, gain: u64) -> Result<Range, PriceErr
     })
 }
 
-#[tactic(auto, using(crate::proofs::ListLemmas::asked_list))]
 // A list of arcs for a minute that reaches as far as the room.
+#[tactic(auto, using(crate::proofs::ListLemmas::asked_list))]
 fn list_asked(
     alloc: Global,
     case: &LineCase,
@@ -97,8 +97,8 @@ fn list_asked(
 }
 
 impl WayArcs {
-    #[tactic(auto, using(crate::proofs::ListLemmas::lists_none))]
     /// The groups of a way, of which no arcs are listed yet.
+    #[tactic(auto, using(crate::proofs::ListLemmas::lists_none))]
     pub(crate) fn new(
         alloc: Global,
         case: &LineCase,
@@ -138,8 +138,8 @@ impl WayArcs {
         Ok(place)
     }
 
-    #[tactic(auto, using(crate::proofs::ListLemmas::lists_kept, crate::proofs::ListLemmas::kept_wide))]
     // The place of the list of a minute that reaches as far as the room, which is made where there is none.
+    #[tactic(auto, using(crate::proofs::ListLemmas::lists_kept, crate::proofs::ListLemmas::kept_wide))]
     fn place_for(
         &mut self,
         alloc: Global,
@@ -163,9 +163,9 @@ impl WayArcs {
         Ok(place)
     }
 
-    #[tactic(auto, using(crate::proofs::ListLemmas::within_done, crate::proofs::ListLemmas::served_none))]
     /// The arcs that are asked for: each uncut group of the way by ships that aren't served has one, unless
     /// it is worth more than the room.
+    #[tactic(auto, using(crate::proofs::ListLemmas::within_done, crate::proofs::ListLemmas::served_none))]
     pub(crate) fn arcs(
         &mut self,
         alloc: Global,

@@ -52,8 +52,8 @@ fn ceiling(price: u32, spread: u64) -> u32
     spread.saturating_add(price as u64 + 1).min(1_000_000) as u32
 }
 
-#[tactic(auto, using(crate::proofs::GroupLemmas::ceilings_first))]
 // The prices of all ships, raised by more than the spread.
+#[tactic(auto, using(crate::proofs::GroupLemmas::ceilings_first))]
 fn raised(prices: &Prices, spread: u64) -> [u32; SHIPS]
     ensures long { length result ≡ SHIPS }
     ensures are { AreCeilings prices.now spread SHIPS result }
@@ -75,8 +75,8 @@ fn ceilings_of(prices: &Prices, spread: u64) -> Prices
     Prices::capped(&raised(prices, spread))
 }
 
-#[tactic(auto, using(crate::proofs::GroupLemmas::before_first, crate::proofs::GroupLemmas::before_next))]
 // The last arrival and the longest handling of the ships of an instance.
+#[tactic(auto, using(crate::proofs::GroupLemmas::before_first, crate::proofs::GroupLemmas::before_next))]
 fn latest_of(instance: &Instance) -> Latest
     ensures { AreBefore instance.now result (length instance.now.ships) }
 {
@@ -98,8 +98,8 @@ fn is_brief(case: &LineCase) -> bool
     latest.arrival as u64 + case.chamber.pass as u64 + handling < LONG
 }
 
-#[tactic(auto, using(crate::proofs::GroupLemmas::joined_first, crate::proofs::GroupLemmas::joined_next))]
 // The ships of all groups.
+#[tactic(auto, using(crate::proofs::GroupLemmas::joined_first, crate::proofs::GroupLemmas::joined_next))]
 fn ships_of(groups: &[GrownGroup]) -> ShipSet
     ensures { AreJoined groups.now (length groups.now) result.bits }
 {
