@@ -198,7 +198,7 @@ bad_dossier() {
 rows bad_dossier <<'ROWS'
 3s/1100/11oo/ | dossier fault 1 Instance line 3 fault 5 Number | :3: fault 5 Number: "11oo" stands for the length
 6s/$/ open/ | dossier fault 2 NoMark | : fault 2 NoMark: after the instance's line end
-6,7d | dossier fault 2 NoMark | : fault 2 NoMark: after the instance's line end this command wants another line: `certificate`, `certificate 2` or `certificate 3` for check, `certificate open` or `certificate open 3` for lower and resume. Nothing follows that line
+6,7d | dossier fault 2 NoMark | : fault 2 NoMark: after the instance's line end this command wants another line: `certificate`, `certificate 2`, `certificate 3` or `certificate 4` for check, `certificate open`, `certificate open 3` or `certificate open 4` for lower and resume. Nothing follows that line
 7s/}$// | dossier fault 3 Json | : fault 3 Json: what follows
 7s/"cost"/"price"/ | dossier fault 4 Shape part 1 | : fault 4 Shape: the certificate must have the four entries
 7s/120/-1/ | dossier fault 4 Shape part 2 | : fault 4 Shape: the entry cost
@@ -219,4 +219,5 @@ rows bad_dossier <<'ROWS'
 6s/$/ 3/;7s/"tree.*/"prices":[[-1]],"tree":[4,0]}/ | dossier fault 4 Shape part 6 | : fault 4 Shape: the entry prices
 6s/$/ 3/;7s/"tree.*/"prices":[[8500]],"tree":[4,0]}/ | rejected prices 0 reason 12 PricesShape | : rejected at prices 0: these prices are not
 6s/$/ 3/;7s/"tree.*/"prices":[[8400,8400]],"tree":[4,0]}/ | rejected tree 0 reason 13 PriceLow | : rejected at tree 0: a case is closed by prices
+6s/$/ 4/;7s/"tree.*/"prices":[[8500,8500]],"tree":[5,1]}/ | rejected tree 0 reason 14 SweptWrong | : rejected at tree 0: a case is closed by a sweep
 ROWS
