@@ -1,10 +1,10 @@
-"""Dossiers made of ones that a program wrote: with price marks, and with another tree somewhere in their tree."""
+"""Dossiers made of ones that a program wrote: with price marks, with a swept root, and with another tree somewhere in their tree."""
 
 import json
 
 import texts
 from check_dossier import Bounds, Node, end_of
-from dossier_text import BOUND, FEW_SHIPS, FIRST_CUT, FIRST_PROBE, OPEN_LEAF, PRICE, SPLIT, THROUGHPUT, Priced
+from dossier_text import BOUND, FEW_SHIPS, FIRST_CUT, FIRST_PROBE, OPEN_LEAF, PRICE, SPLIT, SWEEP, THROUGHPUT, Priced, Swept
 from price_bound import PriceBound
 
 
@@ -13,9 +13,10 @@ def written(instance, certificate, is_open, line):
     plan = [{"chamber": each.chamber, "ships": list(each.ships), "spots": [list(spot) for spot in each.spots],
              "start": each.start, "way": each.way} for each in certificate.plan]
     cuts = [{"chamber": cut.chamber, "ships": list(cut.ships), "why": [cut.why[0], *cut.why[1]]} for cut in certificate.cuts]
-    tree = [number for mark in certificate.tree for number in ([PRICE, mark.number] if isinstance(mark, Priced) else [mark])]
+    signs = {Priced: PRICE, Swept: SWEEP}
+    tree = [number for mark in certificate.tree for number in ([signs[type(mark)], mark.number] if type(mark) in signs else [mark])]
     value = {"cost": certificate.cost, "cuts": cuts, "plan": plan, "tree": tree}
-    if line.endswith(b" 3"):
+    if line.endswith((b" 3", b" 4")):
         value["prices"] = list(certificate.prices)
     return texts.canonical(instance) + line + b"\n" + json.dumps(value, separators=(",", ":"), sort_keys=True).encode() + b"\n"
 
@@ -57,6 +58,13 @@ def priced(instance, certificate, is_open):
     return written(instance, certificate._replace(prices=prices, tree=tree), is_open, line)
 
 
+def swept(instance, certificate, is_open):
+    """The dossier of the fourth version whose root is closed by a sweep, which holds where the certificate has the cuts for it."""
+    prices = list(certificate.prices) or prices_of(instance, certificate.plan)
+    line = b"certificate open 4" if is_open else b"certificate 4"
+    return written(instance, certificate._replace(prices=prices, tree=[Swept(0)]), is_open, line)
+
+
 def grafted(instance, certificate, is_open, line, dice):
     """The dossier with a leaf, or a split and its leaves, in the place of the tree of some node."""
     nodes, bounds = walked(instance, certificate.tree), Bounds(instance)
@@ -65,12 +73,13 @@ def grafted(instance, certificate, is_open, line, dice):
     node, _, behind = nodes[place]
 
     def leaf(node):
-        missing, marks = bounds.missing(node), [BOUND, BOUND, THROUGHPUT] + [OPEN_LEAF] * is_open
+        missing, marks = bounds.order[node.depth:], [BOUND, BOUND, THROUGHPUT] + [OPEN_LEAF] * is_open
         marks += [FIRST_PROBE + s for s in missing[:1]] + [first_cut + dice.below(len(certificate.cuts) + 1)]
-        marks += [Priced(dice.below(len(certificate.prices) + 1))] * 2 if line.endswith(b" 3") else []
+        marks += [Priced(dice.below(len(certificate.prices) + 1))] * 2 if line.endswith((b" 3", b" 4")) else []
+        marks += [Swept(dice.below(len(certificate.prices) + 1))] * 2 if line.endswith(b" 4") else []
         return dice.pick(marks)
 
-    is_split = bool(bounds.missing(node)) and dice.below(3) > 0
+    is_split = node.depth < len(instance.ships) and dice.below(3) > 0
     tree = [SPLIT] + [leaf(child) for child in bounds.children(node)] if is_split else [leaf(node)]
     marks = certificate.tree[:place] + tree + certificate.tree[behind:]
     return written(instance, certificate._replace(tree=marks), is_open, line)

@@ -24,7 +24,7 @@ sys.dont_write_bytecode = True
 HERE = pathlib.Path(__file__).resolve().parent
 sys.path += [str(HERE.parents[1] / "checker"), str(HERE.parent / "checker"), str(HERE.parent / "rows")]
 import texts
-from certificates import priced
+from certificates import priced, swept
 from check_dossier import answer
 from damage import Dice
 from dossier_text import CLOSED_FORMS, OPEN_FORMS, read_dossier
@@ -33,7 +33,7 @@ from read_rows import ASKED, rows_of
 from runs import EXAMPLES, crowd
 
 SECONDS, SHOWN, TOLD = 60, 10, 100_000
-LARGEST, MOST_FURTHER = 3000, 300
+LARGEST, MOST_FURTHER, SWEPT = 3000, 300, 6
 SEARCH = "solve --workers 1 --dossier --keep --nodes".split()
 
 
@@ -138,7 +138,10 @@ def seeds(program):
                 continue
             instance, certificate = read_dossier(dossier, OPEN_FORMS if status else CLOSED_FORMS)
             plans.append(texts.canonical(instance) + texts.text_of(certificate.plan, instance))
-            dossiers += [dossier, priced(instance, certificate, status == 1)] if len(dossier) <= LARGEST else []
+            if len(dossier) <= LARGEST:
+                dossiers += [dossier, priced(instance, certificate, status == 1)]
+            if len(instance.ships) <= SWEPT:
+                dossiers.append(swept(instance, certificate, status == 1))
     plans.append(b"".join((EXAMPLES / f"evening{end}").read_bytes() for end in (".lock", ".plan")))
     kinds = {b"solve": instances, b"judge": plans, b"play": plans, b"check": dossiers, b"lower": dossiers}
     for path in sorted((HERE.parent / "rows").glob("*.rows")):
