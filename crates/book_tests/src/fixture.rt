@@ -61,7 +61,8 @@ fn spot(y: u32, rank: Rank) -> Spot {
     }
 }
 
-fn alone(chamber: u8, ship: u8, start: u32) -> Lockage {
+/// One ship up in a chamber from a minute.
+pub(crate) fn alone(chamber: u8, ship: u8, start: u32) -> Lockage {
     let mut spots = Spots::new();
     spots.push(spot(0, Rank::Left));
     Lockage {

@@ -1,8 +1,9 @@
 //! Tests of the books of a search: worked books of two ships, driven by hand.
 //!
 //! `books` tests the book itself (`book_core`), `shared_books` the book under its lock (`search_book`),
-//! and `certificates` the certificate of a finished book (`book_certificate`). A crate with tests is
-//! proved twice, so they stand in a crate of their own, which has no code but them.
+//! `certificates` the certificate of a finished book (`book_certificate`), and `swept_roots` those whose
+//! root is closed by a sweep, made by hand. A crate with tests is proved twice, so they stand in a crate
+//! of their own, which has no code but them.
 #![tactic(auto)]
 
 #[cfg(test)]
@@ -17,3 +18,5 @@ mod priced_root;
 mod shared_books;
 #[cfg(test)]
 mod spent_decks;
+#[cfg(test)]
+mod swept_roots;

@@ -154,14 +154,15 @@ fn low_or_failure(
     }
 }
 
-/// Checks a certificate of an instance without any search: its plan, then its cost, then its cuts
+/// Checks a certificate of an instance without any search of nodes: its plan, then its cost, then its cuts
 /// in order, then its prices in order, then its marks in order, each mark once. An open leaf ends its
 /// node.
 ///
 /// `Stands` exactly where the certificate stands, with its low and its cost in minutes; then its plan is
 /// legal and costs as much, and every legal plan costs at least the low. Where it leaves no node open as
 /// well, it is accepted: the low is the cost, and no legal plan costs less. `Rejected` exactly with the
-/// first place and reason at which it fails. Places are numbered from 0. Refuses want of memory alone.
+/// first place and reason at which it fails. Places are numbered from 0. Refuses want of memory alone; a
+/// sweep that takes more than 4,000,000 labels, or 20,000 groups at once, counts as that.
 pub fn check(
     alloc: Global,
     instance: &Instance,

@@ -10,6 +10,8 @@ ghost use Rattle.cert_check.specs.Reading.{Ends};
 
 use crate::claim::Claim;
 use crate::hitting::hits_node;
+use crate::room::PRICE_ROOM;
+use crate::swept::is_swept_by;
 use crate::workspace::Workspace;
 use certificate_rules::{Mark, Reason};
 use closing_rules::Ground;
@@ -17,7 +19,7 @@ use flow_bounds::{bound, children_reaching, is_missing, probe};
 use master_branch::{Node, steps_by};
 use no_memory::NoMemory;
 use price_bound::{PricedNode, reaches};
-use price_terms::{Limits, Prices};
+use price_terms::Prices;
 
 // Whether there is a cut of this number, and it hits a group of the node.
 fn is_cut_by(claim: &Claim, node: &Node, number: u64) -> bool
@@ -67,12 +69,6 @@ fn is_probed(claim: &Claim, node: &Node, ship: u8, space: &mut Workspace) -> boo
     is_missing(claim.instance, node, ship) && probe(claim.instance, node, ship) >= claim.cost
 }
 
-// Memory ends before a node has so many groups or takes so many turns.
-const NO_LIMITS: Limits = Limits {
-    groups: usize::MAX,
-    turns: u64::MAX,
-};
-
 // Whether there are prices of this number, and the node reaches the cost by them and the cuts.
 fn is_priced_by(
     claim: &Claim,
@@ -92,7 +88,7 @@ fn is_priced_by(
         prices: &claim.prices[number as usize],
         cuts: claim.chamber_cuts,
     };
-    match reaches(&mut space.kept, &asked, claim.cost, NO_LIMITS) {
+    match reaches(&mut space.kept, &asked, claim.cost, PRICE_ROOM) {
         Ok(reached) => Ok(reached),
         Err(_) => Err(NoMemory),
     }
@@ -114,11 +110,12 @@ fn is_closed_by(
         Ground::Probe(ship) => Ok(is_probed(claim, node, ship, space)),
         Ground::Cut(number) => Ok(is_cut_by(claim, node, number)),
         Ground::Price(number) => is_priced_by(claim, node, number, space),
+        Ground::Swept(number) => is_swept_by(space.alloc, claim, node, number),
     }
 }
 
 // Whether a mark ends the node: it closes it, or leaves it open. Refuses want of memory alone, and
-// only of a price mark.
+// only of a price mark and of one that tells of a sweep.
 pub(crate) fn ends(
     claim: &Claim,
     node: &Node,
@@ -145,6 +142,7 @@ fn reason_by(why: Ground) -> Reason
         Ground::Probe(_) => Reason::ProbeWrong,
         Ground::Cut(_) => Reason::CutMisses,
         Ground::Price(_) => Reason::PriceLow,
+        Ground::Swept(_) => Reason::SweptWrong,
     }
 }
 

@@ -4,10 +4,11 @@ use flow_bounds::NodeWalks;
 use price_bound::KeptLines;
 use std::alloc::Global;
 
-// Room for walks along the lines of a node, and least lines that are kept for the next price marks.
-// Both help speed alone.
+// The allocator, room for walks along the lines of a node, and least lines that are kept for the next
+// price marks. Room and lines help speed alone.
 #[derive(Drop)]
 pub(crate) struct Workspace {
+    pub(crate) alloc: Global,
     pub(crate) walks: NodeWalks,
     pub(crate) kept: KeptLines,
 }
@@ -16,6 +17,7 @@ impl Workspace {
     // Nothing is kept yet.
     pub(crate) fn new(alloc: Global) -> Workspace {
         Workspace {
+            alloc,
             walks: NodeWalks::new(),
             kept: KeptLines::new(alloc),
         }

@@ -3,7 +3,7 @@ use Rattle.std.specs.Prelude.{ℕ, List, ◌++◌, codes, decimal}
 use Rattle.certificate_rules.specs.declared.certificate.FailurePlace.{FailurePlace}
 use Rattle.certificate_rules.specs.declared.certificate.FailurePlace.TheVariants.{Plan, Cost, Cut, Prices, Tree}
 use Rattle.certificate_rules.specs.declared.certificate.Reason.{Reason}
-use Rattle.certificate_rules.specs.declared.certificate.Reason.TheVariants.{PlanIllegal, CostWrong, CutShape, CutUnproved, TreeShort, TreeLong, SplitFull, BoundLow, CutMisses, ThroughputLow, ProbeWrong, PricesShape, PriceLow}
+use Rattle.certificate_rules.specs.declared.certificate.Reason.TheVariants.{PlanIllegal, CostWrong, CutShape, CutUnproved, TreeShort, TreeLong, SplitFull, BoundLow, CutMisses, ThroughputLow, ProbeWrong, PricesShape, PriceLow, SweptWrong}
 use Rattle.cert_text.specs.declared.bad.BadDossier.{BadDossier}
 use Rattle.cert_text.specs.declared.bad.BadDossier.TheVariants.{Instance, NoMark, Json, Shape}
 use Rattle.run_answers.specs.Texts.{defect_text}
@@ -31,6 +31,7 @@ number_of_reason ThroughputLow = 10
 number_of_reason ProbeWrong = 11
 number_of_reason PricesShape = 12
 number_of_reason PriceLow = 13
+number_of_reason SweptWrong = 14
 
 abbrev pub name_of_reason : Reason → List ℕ
 name_of_reason PlanIllegal = codes "PlanIllegal"
@@ -46,6 +47,7 @@ name_of_reason ThroughputLow = codes "ThroughputLow"
 name_of_reason ProbeWrong = codes "ProbeWrong"
 name_of_reason PricesShape = codes "PricesShape"
 name_of_reason PriceLow = codes "PriceLow"
+name_of_reason SweptWrong = codes "SweptWrong"
 
 -- the first failure of a certificate
 unfoldable pub rejected_text : FailurePlace → Reason → List ℕ

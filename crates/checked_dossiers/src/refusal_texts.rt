@@ -51,6 +51,7 @@ fn number_of(reason: Reason) -> u64
         Reason::ProbeWrong => 11,
         Reason::PricesShape => 12,
         Reason::PriceLow => 13,
+        Reason::SweptWrong => 14,
     }
 }
 
@@ -72,6 +73,7 @@ fn name_of(reason: Reason) -> &'static [u8]
         Reason::ProbeWrong => b"ProbeWrong",
         Reason::PricesShape => b"PricesShape",
         Reason::PriceLow => b"PriceLow",
+        Reason::SweptWrong => b"SweptWrong",
     }
 }
 

@@ -2,12 +2,13 @@
 //!
 //! `sweep` goes on from the label that serves nobody, by each uncut group of missing ships of each chamber, and
 //! drops labels that others dominate and labels whose bound by prices is above the goal. Where it comes to an
-//! end with no plan cheaper than the goal, the goal is `Swept`; a cheaper plan is answered as a value, and
-//! nothing is claimed of it: whoever takes it looks at it.
+//! end with no plan cheaper than the goal, the goal is `Swept`; else it answers a cheaper plan with its cost, an
+//! uncut one: the lines that led to a label are judged.
 //!
 //! Definitions: `sweep_rules` says when costs are swept and what labels are, `sweep_labels` what labels of the
 //! code stand for and what arcs promise. Here `specs/Ends` says how a sweep ends; `Bounds` (what prices bound
-//! behind labels) and `Going` (labels that are met as it goes on) are of the steps.
+//! behind labels), `Going` (labels that are met as it goes on) and `Judging` (what lines are found to be) are
+//! of the steps.
 #![tactic(auto)]
 
 mod asked;

@@ -24,8 +24,8 @@ pub(crate) struct Origin {
     pub(crate) gains: [u64; CHAMBERS],
 }
 
-#[tactic(auto, using(crate::proofs::BoundLemmas::lanes_set, crate::proofs::BoundLemmas::lane_gain))]
 // The gain of a chamber behind a label that has these minutes of it.
+#[tactic(auto, using(crate::proofs::BoundLemmas::lanes_set, crate::proofs::BoundLemmas::lane_gain))]
 fn gain_by(
     case: &SweepCase,
     lanes: &mut [Lane],
@@ -41,8 +41,8 @@ fn gain_by(
     lane.gain(times)
 }
 
-#[tactic(auto, using(crate::proofs::BoundLemmas::gains_none, crate::proofs::BoundLemmas::gains_more))]
 /// The gains of all chambers behind a label.
+#[tactic(auto, using(crate::proofs::BoundLemmas::gains_none, crate::proofs::BoundLemmas::gains_more))]
 pub(crate) fn gains_of(
     case: &SweepCase,
     lanes: &mut [Lane],
@@ -59,8 +59,8 @@ pub(crate) fn gains_of(
     Ok(gains)
 }
 
-#[tactic(auto, using(crate::proofs::BoundLemmas::sum_more))]
 // The gains of all chambers, added.
+#[tactic(auto, using(crate::proofs::BoundLemmas::sum_more))]
 fn sum_of(case: &SweepCase, gains: &[u64; CHAMBERS]) -> Result<u64, PriceError>
     ensures { IfOk result (λ sum. sum ≡ sum_by (gain_in gains.now) (numbers_from 0 (length case.now.instance.now.chambers))) }
 {
@@ -71,8 +71,8 @@ fn sum_of(case: &SweepCase, gains: &[u64; CHAMBERS]) -> Result<u64, PriceError>
     Ok(sum)
 }
 
-#[tactic(auto, using(crate::proofs::BoundLemmas::filter_in, crate::proofs::BoundLemmas::filter_out))]
 /// The prices of the ships that aren't served, added.
+#[tactic(auto, using(crate::proofs::BoundLemmas::filter_in, crate::proofs::BoundLemmas::filter_out))]
 pub(crate) fn missing_prices(case: &SweepCase, served: &ShipSet) -> Result<u64, PriceError>
     ensures { IfOk result (λ sum. sum ≡ prices_missing case.now.instance.now case.now.prices.now (is_in served.now.bits)) }
 {
@@ -109,8 +109,8 @@ pub(crate) fn is_above(
     Ok(low < high)
 }
 
-#[tactic(auto, using(crate::proofs::BoundLemmas::room_wide))]
 /// What a group of a chamber may be worth at most by which a label goes on.
+#[tactic(auto, using(crate::proofs::BoundLemmas::room_wide))]
 pub(crate) fn room_of(
     case: &SweepCase,
     from: &Origin,

@@ -27,8 +27,8 @@ pub(crate) struct Sweeper<'s, 'a> {
     pub(crate) spread: i64,
 }
 
-#[tactic(auto, using(crate::proofs::BoundLemmas::lanes_set, crate::proofs::BoundLemmas::lane_arcs))]
 // The arcs of a chamber that are asked for.
+#[tactic(auto, using(crate::proofs::BoundLemmas::lanes_set, crate::proofs::BoundLemmas::lane_arcs))]
 fn arcs_of(
     case: &SweepCase,
     lanes: &mut [Lane],
@@ -53,8 +53,8 @@ fn put_to(queue: &mut Queue, number: Option<u32>, kept: &KeptLabel) -> Result<()
 }
 
 impl Sweeper<'_, '_> {
-    #[tactic(auto, using(crate::proofs::GrownLemmas::kept_further))]
     // Keeps a label.
+    #[tactic(auto, using(crate::proofs::GrownLemmas::kept_further))]
     fn keep(&mut self, case: &SweepCase, kept: KeptLabel) -> Result<(), PriceError>
         requires { IsSound case.now self.old }
         ensures further { OnOk result (IsFurther case.now self.old self.new) }
@@ -69,8 +69,8 @@ impl Sweeper<'_, '_> {
         Ok(())
     }
 
-    #[tactic(auto, using(crate::proofs::GrownLemmas::sound_same, crate::proofs::GrownLemmas::further_same, crate::proofs::GrownLemmas::further_more, crate::proofs::GoingLemmas::arc_dropped, crate::proofs::GoingLemmas::arc_kept))]
     // Goes on by a step.
+    #[tactic(auto, using(crate::proofs::GrownLemmas::sound_same, crate::proofs::GrownLemmas::further_same, crate::proofs::GrownLemmas::further_more, crate::proofs::GoingLemmas::arc_dropped, crate::proofs::GoingLemmas::arc_kept))]
     fn go_on(&mut self, case: &SweepCase, from: &Origin, step: &Step) -> Result<(), PriceError>
         requires sound { IsSound case.now self.old }
         requires origin { IsOrigin case.now from.now }
@@ -95,8 +95,8 @@ impl Sweeper<'_, '_> {
         Ok(())
     }
 
-    #[tactic(auto, using(crate::proofs::GrownLemmas::further_same, crate::proofs::GrownLemmas::further_more, crate::proofs::GrownLemmas::arcs_led_none, crate::proofs::GrownLemmas::arcs_led_more))]
     // Goes on by arcs of a chamber and a way.
+    #[tactic(auto, using(crate::proofs::GrownLemmas::further_same, crate::proofs::GrownLemmas::further_more, crate::proofs::GrownLemmas::arcs_led_none, crate::proofs::GrownLemmas::arcs_led_more))]
     fn go_by_arcs(
         &mut self,
         case: &SweepCase,
@@ -118,8 +118,8 @@ impl Sweeper<'_, '_> {
         Ok(())
     }
 
-    #[tactic(auto, using(crate::proofs::GrownLemmas::sound_same, crate::proofs::GrownLemmas::further_same, crate::proofs::GrownLemmas::further_more, crate::proofs::GoingLemmas::way_led))]
     // Goes on by a chamber and a way.
+    #[tactic(auto, using(crate::proofs::GrownLemmas::sound_same, crate::proofs::GrownLemmas::further_same, crate::proofs::GrownLemmas::further_more, crate::proofs::GoingLemmas::way_led))]
     fn go_by(
         &mut self,
         case: &SweepCase,
@@ -148,8 +148,8 @@ impl Sweeper<'_, '_> {
         Ok(())
     }
 
-    #[tactic(auto, using(crate::proofs::GrownLemmas::further_more, crate::proofs::GrownLemmas::way_led_on))]
     // Goes on by a chamber.
+    #[tactic(auto, using(crate::proofs::GrownLemmas::further_more, crate::proofs::GrownLemmas::way_led_on))]
     fn go_by_both(&mut self, case: &SweepCase, from: &Origin, chamber: u8) -> Result<(), PriceError>
         requires sound { IsSound case.now self.old }
         requires origin { IsOrigin case.now from.now }
@@ -163,8 +163,8 @@ impl Sweeper<'_, '_> {
         Ok(())
     }
 
-    #[tactic(auto, using(crate::proofs::GrownLemmas::further_same, crate::proofs::GrownLemmas::further_more, crate::proofs::GrownLemmas::led_none, crate::proofs::GrownLemmas::led_more))]
     // Goes on by all chambers.
+    #[tactic(auto, using(crate::proofs::GrownLemmas::further_same, crate::proofs::GrownLemmas::further_more, crate::proofs::GrownLemmas::led_none, crate::proofs::GrownLemmas::led_more))]
     fn go_by_all(&mut self, case: &SweepCase, from: &Origin) -> Result<(), PriceError>
         requires sound { IsSound case.now self.old }
         requires origin { IsOrigin case.now from.now }
@@ -178,8 +178,8 @@ impl Sweeper<'_, '_> {
         Ok(())
     }
 
-    #[tactic(auto, using(crate::proofs::GrownLemmas::closed_further))]
     // Closes a treated label.
+    #[tactic(auto, using(crate::proofs::GrownLemmas::closed_further))]
     fn close(&mut self, case: &SweepCase, number: u32)
         requires sound { IsSound case.now self.old }
         requires treated { IsTreated case.now.instance.now (cuts_of case.now) self.old.made.goal (labels_of self.old.made.labels.items.items) number }
@@ -188,8 +188,8 @@ impl Sweeper<'_, '_> {
         self.made.labels.close(number as usize);
     }
 
-    #[tactic(auto, using(crate::proofs::GrownLemmas::further_more, crate::proofs::GoingLemmas::at_number, crate::proofs::GoingLemmas::at_number_on, crate::proofs::GoingLemmas::bound_treated, crate::proofs::GoingLemmas::led_treated))]
     // Goes on from the label of a number that misses a ship, unless its bound is above the goal, and closes it.
+    #[tactic(auto, using(crate::proofs::GrownLemmas::further_more, crate::proofs::GoingLemmas::at_number, crate::proofs::GoingLemmas::at_number_on, crate::proofs::GoingLemmas::bound_treated, crate::proofs::GoingLemmas::led_treated))]
     fn treat(&mut self, case: &SweepCase, from: &Origin, missed: u8) -> Result<(), PriceError>
         requires sound { IsSound case.now self.old }
         requires origin { IsOrigin case.now from.now }
@@ -209,8 +209,8 @@ impl Sweeper<'_, '_> {
         Ok(())
     }
 
-    #[tactic(auto, using(crate::proofs::GrownLemmas::sound_same, crate::proofs::GrownLemmas::further_same, crate::proofs::GrownLemmas::further_more))]
     // Goes on from the label of a number, and closes it.
+    #[tactic(auto, using(crate::proofs::GrownLemmas::sound_same, crate::proofs::GrownLemmas::further_same, crate::proofs::GrownLemmas::further_more))]
     fn expand(&mut self, case: &SweepCase, number: u32, label: Label) -> Result<(), PriceError>
         requires sound { IsSound case.now self.old }
         requires within { number < length self.old.made.labels.items.items }
@@ -232,8 +232,8 @@ impl Sweeper<'_, '_> {
         Ok(())
     }
 
-    #[tactic(auto, using(crate::proofs::GrownLemmas::further_same))]
     // Goes on from the label of a number, where it is open.
+    #[tactic(auto, using(crate::proofs::GrownLemmas::further_same))]
     fn settle(&mut self, case: &SweepCase, number: u32) -> Result<(), PriceError>
         requires { IsSound case.now self.old }
         ensures { OnOk result (IsFurther case.now self.old self.new) }
@@ -244,8 +244,8 @@ impl Sweeper<'_, '_> {
         }
     }
 
-    #[tactic(auto, using(crate::proofs::GrownLemmas::sound_same, crate::proofs::GrownLemmas::further_same, crate::proofs::GrownLemmas::further_more))]
     // Goes on from labels until the queue has none.
+    #[tactic(auto, using(crate::proofs::GrownLemmas::sound_same, crate::proofs::GrownLemmas::further_same, crate::proofs::GrownLemmas::further_more))]
     fn settle_all(&mut self, case: &SweepCase) -> Result<(), PriceError>
         requires { IsSound case.now self.old }
         ensures { OnOk result (IsFurther case.now self.old self.new) }
@@ -273,8 +273,8 @@ impl Sweeper<'_, '_> {
         }
     }
 
-    #[tactic(auto, using(crate::proofs::GrownLemmas::sound_same, crate::proofs::GrownLemmas::further_same, crate::proofs::GrownLemmas::further_more))]
     /// Begins with the label that serves nobody.
+    #[tactic(auto, using(crate::proofs::GrownLemmas::sound_same, crate::proofs::GrownLemmas::further_same, crate::proofs::GrownLemmas::further_more))]
     pub(crate) fn begin(&mut self, case: &SweepCase) -> Result<(), PriceError>
         requires { IsSound case.now self.old }
         ensures further { OnOk result (IsFurther case.now self.old self.new) }

@@ -16,6 +16,7 @@ use Rattle.sweep_labels.specs.Arcs.{IsGainBehind, AreArcs}
 use Rattle.sweep_arcs.specs.declared.asked.ArcsAsked.{ArcsAsked}
 use Rattle.sweep_arcs.specs.declared.gains.Gains.{Gains}
 use Rattle.sweep_arcs.specs.declared.lane.Lane.{Lane}
+use Rattle.sweep_arcs.specs.Ways.{IsWayLane}
 
 -- the gain where the chamber stands for the way and is free at the minute, whoever is missing
 pub record IsGainAt (ask : LineAsk) (way : Way) (minute gain : ℕ) : Type 0 where
@@ -40,10 +41,15 @@ pub record AreGainsKept (gains : Gains) : Type 0 where
 abbrev pub ask_of : Lane → LineAsk
 ask_of lane = line_asked lane.case.now
 
--- the chamber has no line, at the root
+-- The chamber has no line, at the root; the ship sets are what its cuts forbid it; and what is kept of its gains and its ways is right.
 pub record IsLane (lane : Lane) : Type 0 where
   pub root : lane.case.now.depth ≡ 0
   pub empty : lane.case.now.line.now ≡ []
+  pub sets : AreForbidden lane.case.now.instance.now lane.case.now.index (plain_cuts lane.case.now.instance.now lane.case.now.cuts.now) lane.sets.items
+  pub gains : AreGainsKept lane.gains
+  pub asked : gains_ask lane.gains ≡ ask_of lane
+  pub up : IsWayLane (ask_of lane) Up lane.up
+  pub down : IsWayLane (ask_of lane) Down lane.down
 
 -- the chamber is asked the same, and what it keeps is right
 pub record IsSameLane (old new : Lane) : Type 0 where

@@ -1,15 +1,12 @@
 //! How much a chamber's ways to go on may gain from any minute on.
-ghost use Rattle.std.specs.Prelude.{◌≡◌, ◌≤◌, [], pos, ◌+ℤ◌, ◌≤ℤ◌, length, IfOk, IfSome, OnOk};
+ghost use Rattle.std.specs.Prelude.{◌≡◌, ◌≤◌, [], pos, ◌+ℤ◌, ◌≤ℤ◌, IfOk, IfSome, OnOk};
 ghost use Rattle.lock_rules.specs.Lawful.{stand_after, stand_before};
 ghost use Rattle.price_groups.specs.Asked.{line_asked};
-ghost use Rattle.price_groups.specs.Masks.{AreAllCompletable};
-ghost use Rattle.price_groups.specs.Sparing.{AreForbidden};
-ghost use Rattle.price_terms.specs.Cuts.{plain_cuts};
 ghost use Rattle.sweep_arcs.specs.Lanes.{gains_ask, AreGainsKept, IsGainAt};
 
 use crate::asked::ArcLimits;
-use lock_model::{Ships, Stand, Way};
-use price_groups::{CompletableSets, Extension, LineCase, rates};
+use lock_model::{Stand, Way};
+use price_groups::{Extension, LineCase, completable_by_ship, forbidden_sets, rates};
 use price_table::EndValues;
 use price_terms::PriceError;
 use std::alloc::Global;
@@ -56,22 +53,20 @@ impl<'a> Gains<'a> {
     pub(crate) fn new(
         alloc: Global,
         case: &'a LineCase<'a>,
-        sets: &[Ships],
-        completable: &[CompletableSets],
         limits: &ArcLimits,
     ) -> Result<Gains<'a>, PriceError>
-        requires sets { AreForbidden case.now.instance.now case.now.index (plain_cuts case.now.instance.now case.now.cuts.now) sets.now }
-        requires completable { AreAllCompletable case.now.instance.now case.now.depth sets.now (length case.now.instance.now.ships) completable.now }
         requires root { case.now.depth ≡ 0 }
         requires empty { case.now.line.now ≡ [] }
         ensures kept { IfOk result AreGainsKept }
         ensures asked { IfOk result (λ gains. gains_ask gains ≡ line_asked case.now) }
     {
+        let sets = forbidden_sets(alloc, case)?;
+        let completable = completable_by_ship(alloc, case, &sets)?;
         let rates = rates(alloc, case, case.prices)?;
         let extension = Extension {
-            case,
-            sets,
-            completable,
+            case: &*case,
+            sets: &sets,
+            completable: &completable,
             rates: &rates,
             ceilings: case.prices,
             high_rates: &rates,
@@ -86,8 +81,8 @@ impl<'a> Gains<'a> {
         })
     }
 
-    #[inline(always)]
     // What is kept for a way and a minute.
+    #[inline(always)]
     fn kept(&self, way: Way, minute: u64) -> Option<u64>
         requires { AreGainsKept self.now }
         ensures { IfSome result (IsGainAt (gains_ask self.now) way minute) }
@@ -124,8 +119,8 @@ impl<'a> Gains<'a> {
         Ok(gain)
     }
 
-    #[inline(always)]
     // The gain of a way and a minute that isn't past the horizon.
+    #[inline(always)]
     fn early(&mut self, way: Way, minute: u64) -> Result<u64, PriceError>
         requires kept { AreGainsKept self.old }
         requires minute { minute ≤ 14000000 }
@@ -139,9 +134,9 @@ impl<'a> Gains<'a> {
         }
     }
 
-    #[inline(always)]
     /// The gain where the chamber stands for a way and is free at a minute: no way to go on pays more than
     /// that beyond 100 times its flow time. Past the horizon it is what it is there.
+    #[inline(always)]
     pub(crate) fn at(&mut self, way: Way, minute: u64) -> Result<u64, PriceError>
         requires { AreGainsKept self.old }
         ensures same { gains_ask self.new ≡ gains_ask self.old }

@@ -5,13 +5,23 @@
 //! groups that may come next for a way from a minute on, but for those whose worth is above a room; and
 //! `arrivals` lists the ships that the chamber waits for. What was worked out is kept by minute.
 //!
+//! A chamber whose ways have more uncut groups than the limits allow is refused, and an instance whose
+//! groups may be served later than the greatest price counts.
+//!
 //! Definitions: `sweep_labels` says what arcs and gains are (`specs/Arcs`) and when ships are listed
-//! (`specs/Coming`).
+//! (`specs/Coming`). Here `specs/Lanes` says what a `Lane` keeps and promises, `Ways` what it keeps of a
+//! way, and `Awaited` which ships a chamber may want.
 #![tactic(auto)]
 
+mod arc_list;
+mod arrivals;
 mod asked;
 mod gains;
 mod lane;
+mod listing;
+mod way_arcs;
+mod way_groups;
+mod way_lane;
 
 pub use asked::{ArcLimits, ArcsAsked};
 pub use lane::Lane;

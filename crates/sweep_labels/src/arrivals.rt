@@ -35,8 +35,8 @@ fn is_missing(served: &ShipSet, ship: u8) -> bool
 }
 
 impl ComingShips {
-    #[tactic(auto, using(crate::proofs::ComingLemmas::served_first, crate::proofs::ComingLemmas::served_more))]
     /// The first arrival of those that aren't served.
+    #[tactic(auto, using(crate::proofs::ComingLemmas::served_first, crate::proofs::ComingLemmas::served_more))]
     pub fn first_arrival(&self, served: &ShipSet) -> Option<u32>
         ensures { MatchOption result (AreServed self.now.items.items served.now.bits (length self.now.items.items)) (ComesAt self.now.items.items served.now.bits) }
     {
@@ -48,8 +48,8 @@ impl ComingShips {
         None
     }
 
-    #[tactic(auto, using(crate::proofs::ComingLemmas::raised_never, crate::proofs::ComingLemmas::raised_first))]
     /// A minute, or the first arrival of those that aren't served where that is later.
+    #[tactic(auto, using(crate::proofs::ComingLemmas::raised_never, crate::proofs::ComingLemmas::raised_first))]
     pub fn raised(&self, served: &ShipSet, low: u32) -> u32
         ensures { IsRaised self.now.items.items served.now.bits low result }
     {

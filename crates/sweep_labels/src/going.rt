@@ -41,9 +41,9 @@ fn ready_from(
     Ok(ReadyTimes { up, down })
 }
 
-#[tactic(auto, using(crate::proofs::ComingLemmas::raised_itself))]
 // When another chamber may go on beside a step of a way, no sooner than at a minute: ships of the other way
 // are still missing as before.
+#[tactic(auto, using(crate::proofs::ComingLemmas::raised_itself))]
 fn ready_beside(
     arrivals: &Arrivals,
     before: &ReadyTimes,
@@ -82,8 +82,8 @@ fn low_beside(step: &Step, at: usize) -> Result<u32, PriceError>
     }
 }
 
-#[tactic(auto, using(crate::proofs::GoingLemmas::low_own, crate::proofs::GoingLemmas::low_later, crate::proofs::GoingLemmas::low_sooner))]
 // When a chamber may go on behind a step.
+#[tactic(auto, using(crate::proofs::GoingLemmas::low_own, crate::proofs::GoingLemmas::low_later, crate::proofs::GoingLemmas::low_sooner))]
 fn ready_after(
     instance: &Instance,
     arrivals: &Arrivals,
@@ -103,8 +103,8 @@ fn ready_after(
     Ok(ready_beside(arrivals, &label.ready[at], step.way, served, low))
 }
 
-#[tactic(auto, using(crate::proofs::GoingLemmas::raised_none, crate::proofs::GoingLemmas::raised_more))]
 // When all chambers may go on behind a step.
+#[tactic(auto, using(crate::proofs::GoingLemmas::raised_none, crate::proofs::GoingLemmas::raised_more))]
 fn all_ready_after(
     instance: &Instance,
     arrivals: &[Arrivals],
@@ -154,8 +154,8 @@ pub fn gone_on(
     })
 }
 
-#[tactic(auto, using(crate::proofs::GoingLemmas::raised_none, crate::proofs::GoingLemmas::raised_more))]
 // When all chambers may go on at first.
+#[tactic(auto, using(crate::proofs::GoingLemmas::raised_none, crate::proofs::GoingLemmas::raised_more))]
 fn all_first_ready(
     instance: &Instance,
     arrivals: &[Arrivals],

@@ -37,8 +37,8 @@ fn are_no_later(one: &[ReadyTimes; CHAMBERS], other: &[ReadyTimes; CHAMBERS]) ->
 }
 
 impl Label {
-    #[inline(always)]
     /// Whether it is no worse than another one, whatever ships they serve.
+    #[inline(always)]
     pub fn is_no_worse(&self, other: &Label) -> bool
         ensures { IsTrue result → IsNoWorse self.now other.now }
     {

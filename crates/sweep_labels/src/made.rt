@@ -42,9 +42,9 @@ impl Made {
         }
     }
 
-    #[tactic(auto, using(crate::proofs::MadeLemmas::kept_out, crate::proofs::MadeLemmas::kept_in, crate::proofs::MadeLemmas::kept_whole))]
     /// Keeps a label, of all ships or not; its number, where it is open. Refused are only want of memory and
     /// more labels than a number counts.
+    #[tactic(auto, using(crate::proofs::MadeLemmas::kept_out, crate::proofs::MadeLemmas::kept_in, crate::proofs::MadeLemmas::kept_whole))]
     pub fn keep(&mut self, kept: KeptLabel, whole: bool) -> Result<Option<u32>, PriceError>
         requires { length self.old.labels.are_open.items ≡ length self.old.labels.items.items }
         ensures { IfOk result (λ _. IsKept kept self.old.labels.items.items self.old.labels.are_open.items self.old.goal self.new.labels.items.items self.new.labels.are_open.items self.new.goal) }

@@ -24,8 +24,8 @@ impl<T: Copy + Drop> MinuteRow<T> {
         }
     }
 
-    #[inline(always)]
     /// What is kept for a minute.
+    #[inline(always)]
     pub fn find(&self, minute: u64) -> Option<T>
         ensures { result ≡ slice_index_or self.now.items.items minute None }
     {

@@ -26,8 +26,8 @@ impl ReadyTimes {
         }
     }
 
-    #[inline(always)]
     /// The minute for a way.
+    #[inline(always)]
     pub fn by(&self, way: Way) -> u32
         ensures { result ≡ ready_by self.now way }
     {
@@ -37,8 +37,8 @@ impl ReadyTimes {
         }
     }
 
-    #[inline(always)]
     /// Whether each is no later than the other's.
+    #[inline(always)]
     pub fn is_no_later(&self, other: &ReadyTimes) -> bool
         ensures { IsTrue result ↔ AreNoLater self.now other.now }
     {

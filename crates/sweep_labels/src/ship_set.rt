@@ -21,8 +21,8 @@ impl ShipSet {
         ShipSet { bits: 0 }
     }
 
-    #[inline(always)]
     /// Whether a ship is in the set.
+    #[inline(always)]
     pub fn has(&self, ship: u8) -> bool
         requires { ship < SHIPS }
         ensures { result ≡ is_in self.now.bits ship }
@@ -30,8 +30,8 @@ impl ShipSet {
         self.bits >> ship & 1 == 1
     }
 
-    #[inline(always)]
     /// Whether no ship is in both sets.
+    #[inline(always)]
     pub fn misses(&self, other: &ShipSet) -> bool
         ensures { IsTrue result ↔ AreApart self.now.bits other.now.bits }
     {
@@ -45,8 +45,8 @@ impl ShipSet {
         self.bits & other.bits == other.bits
     }
 
-    #[inline(always)]
     /// The ships of both sets.
+    #[inline(always)]
     pub fn joined(&self, other: &ShipSet) -> ShipSet
         ensures { (s : ℕ) → is_in result.bits s ≡ (is_in self.now.bits s || is_in other.now.bits s) }
     {
@@ -65,8 +65,8 @@ impl ShipSet {
         }
     }
 
-    #[inline(always)]
     /// A number below so many that spreads sets among them; 0 where there is none.
+    #[inline(always)]
     pub fn spread(&self, places: usize) -> usize
         ensures { 0 < places → result < places }
     {

@@ -2,8 +2,8 @@
 //!
 //! The crate has no code but its tests, each over the public items of the crate that it names:
 //! `master_branch` (`nodes`), `flow_bounds` (`bounds`), `price_bound` (`prices`), `price_raise`
-//! (`raising`), `near_plan` (`near`), `first_plan` (`singles`). Times are minutes, and lengths are
-//! decimetres.
+//! (`raising`), `near_plan` (`near`), `first_plan` (`singles`), `sweep` (`sweeps`). Times are minutes, and
+//! lengths are decimetres.
 #![tactic(auto)]
 
 #[cfg(test)]
@@ -20,5 +20,7 @@ mod prices;
 mod raising;
 #[cfg(test)]
 mod singles;
+#[cfg(test)]
+mod sweeps;
 #[cfg(test)]
 mod walk;
