@@ -86,6 +86,7 @@ fn sweep_or_leave<D: Desk>(
     held: &InHand<'_>,
 ) -> Result<bool, D::Stop>
     requires serves { D.serves desk.now hand.old }
+    requires node { IsNodeOf (D.instance desk.now) held.now.node.now }
     ensures serves { D.serves desk.now hand.new }
     ensures ends { Ends (D.holds desk.now held.now) (D.freed desk.now) hand.old hand.new (was_closed result) }
 {

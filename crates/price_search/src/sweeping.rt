@@ -1,5 +1,6 @@
 //! The root, swept.
-ghost use Rattle.price_search.specs.Holding.{Stays, Ends, was_closed, was_ended};
+ghost use Rattle.master_branch.specs.Node.{IsNodeOf};
+ghost use Rattle.price_search.specs.Holding.{Ends, was_closed, was_ended};
 
 use crate::desk::{Desk, InHand};
 use crate::found::carry_out;
@@ -25,9 +26,10 @@ impl Goals {
         self.reached.saturating_add(self.distance).min(best)
     }
 
-    // The next goal is twice as far.
+    // The next goal is a third farther.
     fn rise(&mut self) {
-        self.distance = self.distance.saturating_mul(2);
+        let farther = self.distance / 3 + 1;
+        self.distance = self.distance.saturating_add(farther);
     }
 }
 
@@ -74,17 +76,18 @@ fn place<D: Desk>(
     plan: UncutPlan,
 ) -> Result<AfterSweep, D::Stop>
     requires serves { D.serves desk.now hand.old }
+    requires node { IsNodeOf (D.instance desk.now) held.now.node.now }
     ensures serves { D.serves desk.now hand.new }
-    ensures holds { Stays (D.holds desk.now held.now) hand.old hand.new }
+    ensures ends { Ends (D.holds desk.now held.now) (D.freed desk.now) hand.old hand.new (was_ended result) }
 {
     let found = desk.place(hand, memory, held, plan)?;
-    let after = if found.is_empty() {
-        AfterSweep::Open
-    } else {
-        AfterSweep::Again
-    };
+    let is_empty = found.is_empty();
     carry_out(desk, hand, held, found)?;
-    Ok(after)
+    if is_empty {
+        Ok(AfterSweep::Open)
+    } else {
+        Ok(AfterSweep::Again)
+    }
 }
 
 // Sweeps the next goal, and carries out what that shows.
@@ -97,6 +100,7 @@ fn sweep_once<D: Desk>(
     goals: &mut Goals,
 ) -> Result<AfterSweep, D::Stop>
     requires serves { D.serves desk.now hand.old }
+    requires node { IsNodeOf (D.instance desk.now) held.now.node.now }
     ensures serves { D.serves desk.now hand.new }
     ensures ends { Ends (D.holds desk.now held.now) (D.freed desk.now) hand.old hand.new (was_ended result) }
 {
@@ -127,6 +131,7 @@ pub(crate) fn sweep_root<D: Desk>(
     held: &InHand<'_>,
 ) -> Result<bool, D::Stop>
     requires serves { D.serves desk.now hand.old }
+    requires node { IsNodeOf (D.instance desk.now) held.now.node.now }
     ensures serves { D.serves desk.now hand.new }
     ensures ends { Ends (D.holds desk.now held.now) (D.freed desk.now) hand.old hand.new (was_closed result) }
 {
