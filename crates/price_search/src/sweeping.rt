@@ -26,9 +26,9 @@ impl Goals {
         self.reached.saturating_add(self.distance).min(best)
     }
 
-    // The next goal is a third farther.
+    // The next goal is a quarter farther. Labels grow so fast with the distance that the last sweep takes most.
     fn rise(&mut self) {
-        let farther = self.distance / 3 + 1;
+        let farther = self.distance / 4 + 1;
         self.distance = self.distance.saturating_add(farther);
     }
 }
