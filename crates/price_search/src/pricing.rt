@@ -114,7 +114,7 @@ pub struct Pricing {
 
 impl Pricing {
     /// Begins with these prices, one for each ship, at the first node. All sweeps together may make so many
-    /// labels, which take some 100 bytes each.
+    /// labels, which take some 260 bytes each while a sweep lasts.
     pub fn new(
         alloc: Global,
         prices: Prices,
