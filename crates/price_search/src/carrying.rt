@@ -3,46 +3,12 @@ ghost use Rattle.master_branch.specs.Node.{IsNodeOf};
 ghost use Rattle.price_search.specs.Holding.{Stays, Ends, was_closed};
 
 use crate::desk::{Desk, InHand};
+use crate::found::carry_out;
 use crate::pricing::{MOST_AT_A_NODE, Pricing};
 use crate::round::{Round, RoundEnd};
-use deck_cuts::Cut;
-use lock_model::Plan;
+use crate::sweeping::sweep_root;
 use placed_groups::Memory;
 use price_terms::Prices;
-
-// Posts the cuts that a round found.
-fn post_all<D: Desk>(
-    desk: &D,
-    hand: &mut D::Hand,
-    held: &InHand<'_>,
-    mut cuts: Vec<Cut>,
-) -> Result<(), D::Stop>
-    requires serves { D.serves desk.now hand.old }
-    ensures serves { D.serves desk.now hand.new }
-    ensures holds { Stays (D.holds desk.now held.now) hand.old hand.new }
-{
-    while let Some(cut) = cuts.pop() {
-        desk.post(hand, held, cut)?;
-    }
-    Ok(())
-}
-
-// Gives the plan that a round found, if any, to the book.
-fn give_some<D: Desk>(
-    desk: &D,
-    hand: &mut D::Hand,
-    held: &InHand<'_>,
-    plan: Option<Plan>,
-) -> Result<(), D::Stop>
-    requires serves { D.serves desk.now hand.old }
-    ensures serves { D.serves desk.now hand.new }
-    ensures holds { Stays (D.holds desk.now held.now) hand.old hand.new }
-{
-    match plan {
-        Some(plan) => desk.give(hand, held, plan),
-        None => Ok(()),
-    }
-}
 
 // Makes one round and carries out what it found; how it ended.
 fn make_round<D: Desk>(
@@ -57,9 +23,9 @@ fn make_round<D: Desk>(
     ensures serves { D.serves desk.now hand.new }
     ensures holds { Stays (D.holds desk.now held.now) hand.old hand.new }
 {
-    let Round { cuts, plan, end } = desk.round(hand, memory, pricing, held)?;
-    post_all(desk, hand, held, cuts)?;
-    give_some(desk, hand, held, plan)?;
+    desk.learn(hand, pricing, held)?;
+    let Round { found, end } = desk.round(hand, memory, pricing, held)?;
+    carry_out(desk, hand, held, found)?;
     Ok(end)
 }
 
@@ -110,6 +76,27 @@ fn close_by<D: Desk>(
     Ok(closed)
 }
 
+// Closes the held slot by sweeps, where it is the root; else it leaves its prices to the nodes below it.
+// Whether it was closed.
+fn sweep_or_leave<D: Desk>(
+    desk: &D,
+    hand: &mut D::Hand,
+    memory: &mut Memory,
+    pricing: &mut Pricing,
+    held: &InHand<'_>,
+) -> Result<bool, D::Stop>
+    requires serves { D.serves desk.now hand.old }
+    requires node { IsNodeOf (D.instance desk.now) held.now.node.now }
+    ensures serves { D.serves desk.now hand.new }
+    ensures ends { Ends (D.holds desk.now held.now) (D.freed desk.now) hand.old hand.new (was_closed result) }
+{
+    if held.node.depth() == 0 && sweep_root(desk, hand, memory, pricing, held)? {
+        return Ok(true);
+    }
+    desk.leave(pricing, held)?;
+    Ok(false)
+}
+
 // Makes rounds until the slot is closed or prices show no more; whether it was closed.
 fn make_rounds<D: Desk>(
     desk: &D,
@@ -127,10 +114,7 @@ fn make_rounds<D: Desk>(
         match make_round(desk, hand, memory, pricing, held)? {
             RoundEnd::Again => {}
             RoundEnd::Reached(prices) => return close_by(desk, hand, pricing, held, &prices),
-            RoundEnd::Open => {
-                desk.leave(pricing, held)?;
-                return Ok(false);
-            }
+            RoundEnd::Open => return sweep_or_leave(desk, hand, memory, pricing, held),
         }
     }
     Ok(false)
@@ -155,8 +139,8 @@ fn close_as_inherited<D: Desk>(
 }
 
 /// Asks prices about the held node, and carries out what they find: new cuts are posted, a plan is given
-/// to the book, and the slot is closed where its node reaches the best cost by prices. Whether it was
-/// closed; else it is held still, also where the desk stopped.
+/// to the book, and the slot is closed where its node reaches the best cost by prices, or is the root and
+/// the best cost is swept. Whether it was closed; else it is held still, also where the desk stopped.
 pub fn price<D: Desk>(
     desk: &D,
     hand: &mut D::Hand,

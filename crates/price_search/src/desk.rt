@@ -1,12 +1,15 @@
 //! Where a search carries out what prices find.
 
+use crate::found::Found;
 use crate::pricing::Pricing;
 use crate::round::Round;
 use deck_cuts::Cut;
 use lock_model::{Instance, Plan};
 use master_branch::Node;
 use placed_groups::Memory;
-use price_terms::{Prices, Shown};
+use price_terms::{Prices, Shown, Swept};
+use std::alloc::Global;
+use sweep::UncutPlan;
 
 /// A slot that is held, and its node.
 #[derive(Clone, Copy)]
@@ -45,8 +48,22 @@ pub trait Desk {
     fn instance(&self) -> &Instance
         ensures { result.now ≡ instance self.now };
 
+    /// The handle to memory.
+    fn alloc(&self) -> Global;
+
     /// The best cost, in minutes, as far as it is seen from here.
     fn best_cost(&self, hand: &mut Self::Hand, held: &InHand<'_>) -> u64
+        requires serves { serves self.now hand.old }
+        ensures serves { serves self.now hand.new }
+        ensures holds { Stays (holds self.now held.now) hand.old hand.new };
+
+    /// Has the pricing know the first cuts of the book, those that it got since it learnt last too.
+    fn learn(
+        &self,
+        hand: &mut Self::Hand,
+        pricing: &mut Pricing,
+        held: &InHand<'_>,
+    ) -> Result<(), Self::Stop>
         requires serves { serves self.now hand.old }
         ensures serves { serves self.now hand.new }
         ensures holds { Stays (holds self.now held.now) hand.old hand.new };
@@ -64,7 +81,20 @@ pub trait Desk {
         ensures serves { serves self.now hand.new }
         ensures holds { Stays (holds self.now held.now) hand.old hand.new };
 
-    /// Posts a cut that a round found.
+    /// Places the groups of an uncut plan, with the cuts that are known here.
+    fn place(
+        &self,
+        hand: &mut Self::Hand,
+        memory: &mut Memory,
+        held: &InHand<'_>,
+        plan: UncutPlan,
+    ) -> Result<Found, Self::Stop>
+        requires serves { serves self.now hand.old }
+        requires node { IsNodeOf (instance self.now) held.now.node.now }
+        ensures serves { serves self.now hand.new }
+        ensures holds { Stays (holds self.now held.now) hand.old hand.new };
+
+    /// Posts a cut that was found.
     fn post(&self, hand: &mut Self::Hand, held: &InHand<'_>, cut: Cut) -> Result<(), Self::Stop>
         requires serves { serves self.now hand.old }
         ensures serves { serves self.now hand.new }
@@ -95,6 +125,19 @@ pub trait Desk {
         held: &InHand<'_>,
         number: u64,
         shown: &Shown<'_>,
+    ) -> bool
+        requires serves { serves self.now hand.old }
+        ensures serves { serves self.now hand.new }
+        ensures ends { Ends (holds self.now held.now) (freed self.now) hand.old hand.new result };
+
+    /// Closes the held slot, which is the root's, by the cost that was swept, with the prices of this number
+    /// to help whoever sweeps again; whether the book took that.
+    fn close_swept(
+        &self,
+        hand: &mut Self::Hand,
+        held: &InHand<'_>,
+        number: u64,
+        swept: &Swept<'_>,
     ) -> bool
         requires serves { serves self.now hand.old }
         ensures serves { serves self.now hand.new }

@@ -7,7 +7,9 @@
 //! (`FirstNode`), at any other few.
 //!
 //! `price` makes the rounds of a node in hand, and carries out what they find: it posts the new cuts, gives
-//! the plan to the book, and closes the node where prices reach the best cost. It reaches the book through
+//! the plan to the book, and closes the node where prices reach the best cost. Where they don't at the root,
+//! it sweeps costs from what they reach up to the best cost: that closes the root too, or an uncut plan
+//! is found that costs less, whose groups are placed. It reaches the book through
 //! a `Desk`. A driver's is the book in its hand, a worker's a book that several share; each says by its ghost
 //! members what holds of a hand while the slot is held, and once it is closed.
 //!
@@ -15,8 +17,8 @@
 //! So a round promises no more than that its parts are of their types, and that
 //! a search comes to an end: all rounds together are limited.
 //!
-//! - `pricing`: what is kept, `offers`: what nodes leave to those below them. `round`: one round. `placing`: groups of loose lines, placed.
-//! - `carrying`: what rounds find, carried out. `desk`: where.
+//! - `pricing`: what is kept, `offers`: what nodes leave to those below them. `round`: one round. `placing`: groups of loose lines and of uncut plans, placed.
+//! - `carrying`: a node's rounds. `sweeping`: the root, swept. `found`: what either finds, carried out. `desk`: where.
 //!
 //! Definitions: `specs/Serving` says where rounds may be made, `Showing` what is shown of a node, and
 //! `Holding` what becomes of a slot that is held.
@@ -25,13 +27,17 @@
 mod appending;
 mod carrying;
 mod desk;
+mod found;
 mod offers;
 mod placing;
 mod pricing;
 mod round;
+mod sweeping;
 
 pub use carrying::price;
 pub use desk::{Desk, InHand};
+pub use found::Found;
 pub use offers::{Offer, Offers};
+pub use placing::place_uncut;
 pub use pricing::{FirstNode, Pricing};
 pub use round::{Asked, LIMITS, Round, RoundEnd};

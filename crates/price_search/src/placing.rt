@@ -2,14 +2,17 @@
 ghost use Rattle.std.specs.Prelude.{◌≡◌, ◌<◌, length, All};
 
 use crate::appending::append;
+use crate::found::Found;
 use crate::round::Asked;
 use deck_cuts::{Cut, cut_hits};
 use lock_model::{Instance, Ships, Spots};
-use near_plan::Fitting;
+use near_plan::{Fitting, near_plan};
 use no_memory::NoMemory;
 use node_work::{FirstPlacer, KnownCuts, Search, Settled, settle_known};
 use placed_groups::Memory;
+use price_terms::{LooseLine, LooseLines};
 use std::alloc::Global;
+use sweep::UncutPlan;
 
 /// The placers, as prices ask them. What was found before is remembered, and cuts are looked at first;
 /// new cuts are kept.
@@ -83,4 +86,36 @@ impl<K: KnownCuts> Fitting for Placer<'_, '_, K> {
             }
         }
     }
+}
+
+// The lines of an uncut plan as loose ones.
+fn loose_lines(alloc: Global, plan: UncutPlan) -> Result<LooseLines, NoMemory> {
+    let mut lines = Vec::new(alloc);
+    for groups in plan.lines {
+        append(&mut lines, LooseLine { groups, worth: 0 })?;
+    }
+    Ok(LooseLines { lines, sum: 0 })
+}
+
+/// Places the groups of an uncut plan: it is a plan then, which is found where it is cheaper than the best
+/// one, and each group that doesn't fit gives a cut. Its only refusal is want of memory.
+pub fn place_uncut<K: KnownCuts>(
+    alloc: Global,
+    asked: &Asked<'_, K>,
+    memory: &mut Memory,
+    plan: UncutPlan,
+) -> Result<Found, NoMemory> {
+    let lines = loose_lines(alloc, plan)?;
+    let mut placer = Placer::new(alloc, asked, memory);
+    let plan = near_plan(
+        alloc,
+        asked.search.instance,
+        &lines,
+        asked.best,
+        &mut placer,
+    )?;
+    Ok(Found {
+        cuts: placer.found,
+        plan,
+    })
 }

@@ -14,6 +14,7 @@ use price_bound::{KeptLines, PricedNode, show};
 use price_raise::{Ascent, Pace};
 use price_terms::{ChamberCut, Prices, Shown};
 use std::alloc::Global;
+use sweep::{SweepAsked, SweepEnd, SweepLimits, SweepOutcome, sweep};
 
 // The most rounds in a search, and the most at the first node that prices can serve and at any other.
 const MOST_ROUNDS: u32 = 10_000;
@@ -81,6 +82,11 @@ impl FirstNode {
     }
 }
 
+/// The greatest cost, in minutes, that a sum of least lines and prices, in hundredths, reaches.
+pub(crate) fn reached_by(sum: i64) -> u64 {
+    (sum.max(0) as u64).div_ceil(100)
+}
+
 // The same cuts.
 fn copy_cuts(alloc: Global, cuts: &[ChamberCut]) -> Result<Vec<ChamberCut>, NoMemory> {
     let mut copies = Vec::new(alloc);
@@ -91,14 +97,15 @@ fn copy_cuts(alloc: Global, cuts: &[ChamberCut]) -> Result<Vec<ChamberCut>, NoMe
 }
 
 /// The prices of the nodes on the way from the root to the one in hand, those that are raised at the
-/// node in hand, how soon the first node is left, the first cuts of the book, how many rounds may be made
-/// still, and least lines that are kept from call to call.
+/// node in hand, how soon the first node is left, the first cuts of the book, how many rounds and how many
+/// labels of sweeps may be made still, and least lines that are kept from call to call.
 #[derive(Drop)]
 pub struct Pricing {
     pub(crate) path: Vec<Offer>,
     pub(crate) ascent: Ascent,
     pub(crate) first: FirstNode,
     pub(crate) left: u32,
+    pub(crate) labels: u64,
     pub(crate) is_first: bool,
     pub(crate) from: u8,
     pub(crate) cuts: Vec<ChamberCut>,
@@ -106,8 +113,14 @@ pub struct Pricing {
 }
 
 impl Pricing {
-    /// Begins with these prices, one for each ship, at the first node.
-    pub fn new(alloc: Global, prices: Prices, first: FirstNode) -> Result<Pricing, NoMemory> {
+    /// Begins with these prices, one for each ship, at the first node. All sweeps together may make so many
+    /// labels, which take some 260 bytes each while a sweep lasts.
+    pub fn new(
+        alloc: Global,
+        prices: Prices,
+        first: FirstNode,
+        labels: u64,
+    ) -> Result<Pricing, NoMemory> {
         let mut path = Vec::new(alloc);
         let ascent = Ascent::new(prices.copy(), first.pace());
         append(&mut path, Offer::new(prices))?;
@@ -116,6 +129,7 @@ impl Pricing {
             ascent,
             first,
             left: MOST_ROUNDS,
+            labels,
             is_first: true,
             from: 0,
             cuts: Vec::new(alloc),
@@ -210,6 +224,7 @@ impl Pricing {
             ascent: Ascent::new(self.ascent.best().copy(), PACE),
             first: self.first,
             left: MOST_ROUNDS,
+            labels: self.labels,
             is_first: self.is_first,
             from: self.from,
             cuts: copy_cuts(alloc, &self.cuts)?,
@@ -256,6 +271,38 @@ impl Pricing {
         match show(&mut self.kept, &asked, cost, LIMITS) {
             Ok(shown) => shown,
             Err(_) => None,
+        }
+    }
+
+    /// Sweeps a cost, in minutes, by these prices and the book's first cuts. None where that takes more
+    /// than `LIMITS` or the labels that are left, which is tried no more then, or for want of memory.
+    pub(crate) fn sweep<'a>(
+        &'a mut self,
+        alloc: Global,
+        instance: &'a Instance,
+        prices: &'a Prices,
+        goal: u64,
+    ) -> Option<SweepEnd<'a>> {
+        let asked = SweepAsked {
+            instance,
+            cuts: self.cuts.as_slice(),
+            prices,
+            goal,
+        };
+        let limits = SweepLimits {
+            labels: self.labels as usize,
+            groups: LIMITS.groups,
+            turns: LIMITS.turns,
+        };
+        match sweep(alloc, &asked, limits) {
+            Ok(SweepOutcome { end, labels }) => {
+                self.labels = self.labels.saturating_sub(labels);
+                Some(end)
+            }
+            Err(_) => {
+                self.labels = 0;
+                None
+            }
         }
     }
 

@@ -2,10 +2,10 @@
 ghost use Rattle.std.specs.Prelude.{◌≡◌, ◌<◌};
 ghost use Rattle.master_branch.specs.Node.{IsNodeOf};
 
+use crate::found::Found;
 use crate::placing::Placer;
 use crate::pricing::Pricing;
-use deck_cuts::Cut;
-use lock_model::{CHAMBERS, Group, Instance, Plan};
+use lock_model::{CHAMBERS, Group, Instance};
 use master_branch::{Node, arrival_order};
 use near_plan::{fits, near_plan};
 use no_memory::NoMemory;
@@ -43,11 +43,10 @@ pub enum RoundEnd {
     Open,
 }
 
-/// What a round found: new cuts, a plan that may be cheaper than the best one, and how it ended.
+/// What a round found, and how it ended.
 #[derive(Drop)]
 pub struct Round {
-    pub cuts: Vec<Cut>,
-    pub plan: Option<Plan>,
+    pub found: Found,
     pub end: RoundEnd,
 }
 
@@ -62,11 +61,11 @@ enum Least {
 
 // A round that found nothing.
 fn round_of(alloc: Global, end: RoundEnd) -> Round {
-    Round {
+    let found = Found {
         cuts: Vec::new(alloc),
         plan: None,
-        end,
-    }
+    };
+    Round { found, end }
 }
 
 // Whether this sum of least lines and prices shows that all plans cost as much, in minutes.
@@ -152,11 +151,11 @@ impl Pricing {
             self.is_first = false;
             RoundEnd::Open
         };
-        Ok(Round {
+        let found = Found {
             cuts: placer.found,
             plan,
-            end,
-        })
+        };
+        Ok(Round { found, end })
     }
 
     /// Makes a round at a node to which the pricing went, and which has the book's first cuts. The node

@@ -25,7 +25,7 @@ impl KnownCuts for NoCut {
 
 // Has the rounds that follow know the cuts of this one.
 fn keep_cuts(pricing: &mut Pricing, round: &Round) -> Result<(), Fail> {
-    for cut in &round.cuts {
+    for cut in &round.found.cuts {
         let known = ChamberCut {
             chamber: cut.chamber,
             ships: cut.ships.copy(),
@@ -42,7 +42,7 @@ fn rounds_find_the_cut_the_plan_and_the_cost(rt: HostRuntime) -> Result<(), Fail
     let search = Search::new(&instance, 1000);
     let mut memory = Memory::new(rt.alloc());
     let first = Prices::new(&[8500, 8500]).ok_or("no prices")?;
-    let mut pricing = Pricing::new(rt.alloc(), first, FirstNode::Long)?;
+    let mut pricing = Pricing::new(rt.alloc(), first, FirstNode::Long, 0)?;
     pricing.go_to(0);
     let mut best = 200;
     for _ in 0..20 {
@@ -54,7 +54,7 @@ fn rounds_find_the_cut_the_plan_and_the_cost(rt: HostRuntime) -> Result<(), Fail
         };
         let round = pricing.round(rt.alloc(), &asked, &mut memory)?;
         keep_cuts(&mut pricing, &round)?;
-        if round.plan.is_some() {
+        if round.found.plan.is_some() {
             best = 120;
         }
         if matches!(&round.end, RoundEnd::Reached(_)) {

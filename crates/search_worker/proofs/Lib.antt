@@ -1,3 +1,4 @@
 pub mod OwnLemmas
 pub mod FateLemmas
 pub mod ChildLemmas
+pub mod EndLemmas

@@ -8,8 +8,7 @@ use crate::stop::Stop;
 use crate::worker::Worker;
 use book_core::Reply;
 use gates::Gate;
-use price_terms::Shown;
-use search_book::{ByPrice, Event, Gone, Next, Stretch};
+use search_book::{Closing, Event, Gone, Next, Stretch};
 use std::sync::Wait;
 use std::sync::ledger::Ledger;
 
@@ -62,23 +61,20 @@ pub(crate) fn finish<L: Ledger, W: Wait, G: Gate>(
     go_on(post, worker, next)
 }
 
-/// Closes the held node by the prices of this number, of which this was shown, and takes the next slot.
-/// False where the book refused that, and the node is held still.
-pub(crate) fn finish_by_price<L: Ledger, W: Wait, G: Gate>(
+/// Closes the held node by what was found of it beside the book, and takes the next slot. False where the
+/// book refused that, and the node is held still.
+pub(crate) fn finish_by<L: Ledger, W: Wait, G: Gate>(
     post: &Post<'_, L, W, G>,
     worker: &mut Worker<L>,
-    id: u32,
-    number: u64,
-    shown: &Shown<'_>,
+    closing: &Closing<'_>,
 ) -> bool
     requires serves { Serves post.now worker.old }
     ensures serves { Serves post.now worker.new }
 {
-    let closing = ByPrice { id, number, shown };
     let share = &mut worker.hands.share;
     match post
         .book
-        .close_price_and_take(post.rt, share, worker.number, &closing)
+        .close_and_take(post.rt, share, worker.number, closing)
     {
         Next::Taken(reply) => {
             worker.taken = reply;

@@ -3,7 +3,7 @@ ghost use Rattle.std.specs.Prelude.{⊤};
 ghost use Rattle.master_branch.specs.Node.{IsNodeOf};
 ghost use Rattle.search_worker.specs.Serving.{Serves};
 
-use crate::asking::{ask, best_cost, finish_by_price};
+use crate::asking::{ask, best_cost, finish_by};
 use crate::knowing::posted_cuts;
 use crate::post::Post;
 use crate::sharing::{give, post_cut};
@@ -16,12 +16,14 @@ use lock_model::{Instance, Plan};
 use master_branch::Node;
 use node_work::Fate;
 use placed_groups::Memory;
-use price_search::{Asked, Desk, InHand, Offer, Pricing, Round, price};
-use price_terms::{Prices, Shown};
-use search_book::Event;
+use price_search::{Asked, Desk, Found, InHand, Offer, Pricing, Round, place_uncut, price};
+use price_terms::{Prices, Shown, Swept};
+use search_book::{Closing, Event, Finding};
+use std::alloc::Global;
 use std::mem;
 use std::sync::Wait;
 use std::sync::ledger::Ledger;
+use sweep::UncutPlan;
 
 /// Whether prices are to be asked before a node of this depth ends by this fate: one that would be
 /// split, where there are prices that may serve.
@@ -62,8 +64,24 @@ impl<L: Ledger, W: Wait, G: Gate> Desk for Post<'_, L, W, G> {
         self.search.instance
     }
 
+    fn alloc(&self) -> Global {
+        self.alloc
+    }
+
     fn best_cost(&self, worker: &mut Worker<L>, _held: &InHand<'_>) -> u64 {
         best_cost(self, worker)
+    }
+
+    fn learn(
+        &self,
+        worker: &mut Worker<L>,
+        pricing: &mut Pricing,
+        _held: &InHand<'_>,
+    ) -> Result<(), Stop> {
+        self.book.learn_cuts(self.rt, pricing.cuts_mut())?;
+        let cuts = pricing.cuts_mut().len() as u64;
+        self.gate.at(worker.number, Point::Knows(cuts));
+        Ok(())
     }
 
     fn round(
@@ -73,9 +91,6 @@ impl<L: Ledger, W: Wait, G: Gate> Desk for Post<'_, L, W, G> {
         pricing: &mut Pricing,
         held: &InHand<'_>,
     ) -> Result<Round, Stop> {
-        self.book.learn_cuts(self.rt, pricing.cuts_mut())?;
-        let cuts = pricing.cuts_mut().len() as u64;
-        self.gate.at(worker.number, Point::Knows(cuts));
         let best = best_cost(self, worker);
         let known = posted_cuts(self.pool, &worker.tokens);
         let asked = Asked {
@@ -85,6 +100,24 @@ impl<L: Ledger, W: Wait, G: Gate> Desk for Post<'_, L, W, G> {
             known: &known,
         };
         Ok(pricing.round(self.alloc, &asked, memory)?)
+    }
+
+    fn place(
+        &self,
+        worker: &mut Worker<L>,
+        memory: &mut Memory,
+        held: &InHand<'_>,
+        plan: UncutPlan,
+    ) -> Result<Found, Stop> {
+        let best = best_cost(self, worker);
+        let known = posted_cuts(self.pool, &worker.tokens);
+        let asked = Asked {
+            search: &self.search,
+            node: held.node,
+            best,
+            known: &known,
+        };
+        Ok(place_uncut(self.alloc, &asked, memory, plan)?)
     }
 
     fn post(&self, worker: &mut Worker<L>, _held: &InHand<'_>, cut: Cut) -> Result<(), Stop> {
@@ -117,7 +150,28 @@ impl<L: Ledger, W: Wait, G: Gate> Desk for Post<'_, L, W, G> {
         number: u64,
         shown: &Shown<'_>,
     ) -> bool {
-        finish_by_price(self, worker, held.id, number, shown)
+        let closing = Closing {
+            id: held.id,
+            number,
+            by: Finding::Shown(shown),
+        };
+        finish_by(self, worker, &closing)
+    }
+
+    // The same.
+    fn close_swept(
+        &self,
+        worker: &mut Worker<L>,
+        held: &InHand<'_>,
+        number: u64,
+        swept: &Swept<'_>,
+    ) -> bool {
+        let closing = Closing {
+            id: held.id,
+            number,
+            by: Finding::Swept(swept),
+        };
+        finish_by(self, worker, &closing)
     }
 
     // Whoever worked on the node above, the board has what it left.

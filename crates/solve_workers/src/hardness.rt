@@ -28,22 +28,30 @@ use std::mem;
 use std::sync::Wait;
 use std::thread::Threads;
 
-// An instance that isn't solved after so many nodes is hard.
+// An instance that isn't solved after so many nodes, or after this part of the budget, is hard.
 const FIRST_NODES: u32 = 1_000;
 
+const FIRST_PART: u32 = 10;
+
 // A budget of no more nodes than this is searched without prices to its end.
-const SMALL_BUDGET: u32 = 25_000;
+const SMALL_BUDGET: u32 = 1_000;
 
 // Where chambers take no more ships at a time, lines serve the cheapest ones again and again, and
 // rounds cost little.
 const FEW_AT_A_TIME: u8 = 2;
+
+// How many labels all sweeps of a search may make for each node of the budget, and at the most: they take
+// some 260 bytes each while a sweep lasts.
+const LABELS_A_NODE: u64 = 10;
+
+const MOST_LABELS: u64 = 1_000_000;
 
 /// How many nodes of a case are searched before it is told whether it is hard: all of a small budget.
 pub(crate) fn first_nodes(case: &Case) -> u32 {
     if case.nodes <= SMALL_BUDGET {
         u32::MAX
     } else {
-        FIRST_NODES
+        FIRST_NODES.min(case.nodes / FIRST_PART)
     }
 }
 
@@ -109,8 +117,10 @@ fn first_node(case: &Case, workers: u8) -> FirstNode {
 
 // Prices to begin with: what each ship costs in the best plan.
 fn first_pricing(alloc: Global, book: &Book, first: FirstNode) -> Option<Pricing> {
-    let prices = first_prices(&book.case().instance, book.best());
-    Pricing::new(alloc, prices, first).ok()
+    let case = book.case();
+    let prices = first_prices(&case.instance, book.best());
+    let labels = (case.nodes as u64 * LABELS_A_NODE).min(MOST_LABELS);
+    Pricing::new(alloc, prices, first, labels).ok()
 }
 
 // The board of what was found at the root, if anything was and there is memory for it.

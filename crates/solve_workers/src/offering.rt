@@ -13,10 +13,11 @@ use lock_model::{Instance, Plan};
 use no_memory::NoMemory;
 use node_work::Search;
 use placed_groups::Memory;
-use price_search::{Asked, Desk, InHand, Pricing, Round};
-use price_terms::{Prices, Shown};
+use price_search::{Asked, Desk, Found, InHand, Pricing, Round, place_uncut};
+use price_terms::{Prices, Shown, Swept};
 use search_book::learn_cuts;
 use std::alloc::Global;
+use sweep::UncutPlan;
 
 // That the refutation of a cut holds, as its type keeps.
 fn is_cut(cut: &Cut)
@@ -76,8 +77,21 @@ impl Desk for DriversDesk<'_> {
         self.search.instance
     }
 
+    fn alloc(&self) -> Global {
+        self.alloc
+    }
+
     fn best_cost(&self, book: &mut Book, _held: &InHand<'_>) -> u64 {
         book.best_cost()
+    }
+
+    fn learn(
+        &self,
+        book: &mut Book,
+        pricing: &mut Pricing,
+        _held: &InHand<'_>,
+    ) -> Result<(), NoMemory> {
+        learn_cuts(book, pricing.cuts_mut())
     }
 
     fn round(
@@ -87,7 +101,6 @@ impl Desk for DriversDesk<'_> {
         pricing: &mut Pricing,
         held: &InHand<'_>,
     ) -> Result<Round, NoMemory> {
-        learn_cuts(book, pricing.cuts_mut())?;
         let asked = Asked {
             search: self.search,
             node: held.node,
@@ -95,6 +108,22 @@ impl Desk for DriversDesk<'_> {
             known: &*book,
         };
         pricing.round(self.alloc, &asked, memory)
+    }
+
+    fn place(
+        &self,
+        book: &mut Book,
+        memory: &mut Memory,
+        held: &InHand<'_>,
+        plan: UncutPlan,
+    ) -> Result<Found, NoMemory> {
+        let asked = Asked {
+            search: self.search,
+            node: held.node,
+            best: book.best_cost(),
+            known: &*book,
+        };
+        place_uncut(self.alloc, &asked, memory, plan)
     }
 
     fn post(&self, book: &mut Book, _held: &InHand<'_>, cut: Cut) -> Result<(), NoMemory> {
@@ -133,6 +162,19 @@ impl Desk for DriversDesk<'_> {
         // what was shown is reached
         let _ = shown.cost();
         is_closed(&book.close_price(held.id, number, shown))
+    }
+
+    fn close_swept(
+        &self,
+        book: &mut Book,
+        held: &InHand<'_>,
+        number: u64,
+        swept: &Swept<'_>,
+    ) -> bool {
+        book.keeps();
+        // the cost is swept
+        let _ = swept.cost();
+        is_closed(&book.close_swept(held.id, number, swept))
     }
 
     fn inherit(&self, pricing: &mut Pricing, held: &InHand<'_>) {

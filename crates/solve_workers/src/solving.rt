@@ -28,7 +28,6 @@ pub struct Solved {
 }
 
 // The plan that the search begins with. Each ship fits some chamber, so there is one.
-#[inline(never)]
 fn opening_plan(alloc: Global, case: &Case) -> Result<Plan, NoMemory>
     ensures { IfOk result (IsAtMost case.now.instance (singles_of case.now.instance)) }
 {

@@ -10,6 +10,12 @@ use std::sync::Wait;
 use std::test::Fail;
 use std::thread::Threads;
 
+/// A lot that 1,000 nodes don't solve, so that prices are asked.
+pub(super) const LOT: [&str; 7] = ["lot", "--number", "29", "--ships", "11", "--chambers", "2"];
+
+/// A ship that comes so late that no sweep is made.
+const LATE_SHIP: &[u8] = b"ship s12 up 500 60 20000 4\nend\n";
+
 /// The number of a call that never comes.
 pub(super) const NEVER: u64 = 1_000_000;
 
@@ -162,4 +168,12 @@ pub(super) fn run_cut_off<R: Threads + Wait + Sync + Abort>(
         sink_fault: fault,
     };
     run_with(rt, alloc, words, text.as_bytes(), calls)
+}
+
+/// The lot, and a late ship, so that its root is split.
+pub(super) fn late_lot<R: Threads + Wait + Sync>(rt: &R, alloc: Global) -> Result<Vec<u8>, Fail> {
+    let mut text = run_over(rt, alloc, &LOT, b"")?.text;
+    text.truncate(text.len().saturating_sub(b"end\n".len()));
+    text.extend_from_slice(LATE_SHIP)?;
+    Ok(text)
 }

@@ -1,17 +1,14 @@
 //! Runs in which two workers work out prices.
 
-use super::fixture::{LARGE, run_over, run_past};
+use super::fixture::{LARGE, late_lot, run_over, run_past};
 use gates::{MeetGate, Stage};
 use std::alloc::Global;
 use std::sync::Wait;
 use std::test::Fail;
 use std::thread::Threads;
 
-// A lot that 1,000 nodes don't solve, so that prices are asked.
-const LOT: [&str; 7] = ["lot", "--number", "29", "--ships", "11", "--chambers", "2"];
-
-// Its cheapest plan.
-const FIRST_LINE: &[u8] = b"optimal cost 467\n";
+// The cheapest plan of the lot with the late ship.
+const FIRST_LINE: &[u8] = b"optimal cost 491\n";
 
 // For how many looks a gate holds a worker at the most.
 const LOOKS: u64 = 100_000_000;
@@ -31,16 +28,16 @@ fn do_meet<R: Threads + Wait + Sync>(
 
 #[test]
 fn two_workers_price_in_a_run(rt: HostRuntime) -> Result<(), Fail> {
-    let lot = run_over(&rt, rt.alloc(), &LOT, b"")?;
+    let lot = late_lot(&rt, rt.alloc())?;
     let words = ["solve", "--workers", "2"];
-    assert!(rt; do_meet(&rt, rt.alloc(), &words, lot.text.as_slice())?);
+    assert!(rt; do_meet(&rt, rt.alloc(), &words, lot.as_slice())?);
     Ok(())
 }
 
 // Nothing is planned yet, so all is searched.
 #[test]
 fn two_workers_price_when_the_rest_is_planned(rt: HostRuntime) -> Result<(), Fail> {
-    let mut text = run_over(&rt, rt.alloc(), &LOT, b"")?.text;
+    let mut text = late_lot(&rt, rt.alloc())?;
     text.extend_from_slice(b"plan\nend\n")?;
     let words = ["replan", "--from", "0", "--workers", "2"];
     assert!(rt; do_meet(&rt, rt.alloc(), &words, text.as_slice())?);
@@ -49,9 +46,9 @@ fn two_workers_price_when_the_rest_is_planned(rt: HostRuntime) -> Result<(), Fai
 
 #[test]
 fn two_workers_price_in_a_resumed_search(rt: HostRuntime) -> Result<(), Fail> {
-    let lot = run_over(&rt, rt.alloc(), &LOT, b"")?;
+    let lot = late_lot(&rt, rt.alloc())?;
     let begun = ["solve", "--nodes", "1", "--keep", "--workers", "1"];
-    let kept = run_over(&rt, rt.alloc(), &begun, lot.text.as_slice())?;
+    let kept = run_over(&rt, rt.alloc(), &begun, lot.as_slice())?;
     let words = ["resume", "--workers", "2"];
     assert!(rt; do_meet(&rt, rt.alloc(), &words, kept.text.as_slice())?);
     Ok(())

@@ -1,6 +1,6 @@
 use Rattle.std.proofs.Common.{length}
 use Rattle.price_search.specs.Holding.{Stays}
-use Rattle.price_search.proofs.carrying.post_all.Given as goal
+use Rattle.price_search.proofs.found.post_all.Given as goal
 
 abbrev pub invariant-loop-cut : goal.invariant-loop-cut
 invariant-loop-cut g l =

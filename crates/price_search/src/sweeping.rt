@@ -1,0 +1,150 @@
+//! The root, swept.
+ghost use Rattle.master_branch.specs.Node.{IsNodeOf};
+ghost use Rattle.price_search.specs.Holding.{Ends, was_closed, was_ended};
+
+use crate::desk::{Desk, InHand};
+use crate::found::carry_out;
+use crate::pricing::{Pricing, reached_by};
+use placed_groups::Memory;
+use price_terms::{Prices, Swept};
+use sweep::{SweepEnd, UncutPlan};
+
+// The most sweeps at the root.
+const MOST_SWEEPS: u32 = 200;
+
+// Costs, in minutes, that are swept one after the other. What a sweep takes hangs on how far its goal is
+// above what prices reach, so goals rise from there.
+#[derive(Clone, Copy)]
+struct Goals {
+    reached: u64,
+    distance: u64,
+}
+
+impl Goals {
+    // The next goal, where the best plan costs so much.
+    fn next(self, best: u64) -> u64 {
+        self.reached.saturating_add(self.distance).min(best)
+    }
+
+    // The next goal is a quarter farther. Labels grow so fast with the distance that the last sweep takes most.
+    fn rise(&mut self) {
+        let farther = self.distance / 4 + 1;
+        self.distance = self.distance.saturating_add(farther);
+    }
+}
+
+/// What becomes of the root after a sweep.
+#[derive(Clone, Copy)]
+pub(crate) enum AfterSweep {
+    /// It was closed.
+    Closed,
+    /// Another sweep may show more.
+    Again,
+    /// Sweeps show no more.
+    Open,
+}
+
+// Closes the held root, of which it was shown by these prices that the best cost is swept.
+fn close_swept<D: Desk>(
+    desk: &D,
+    hand: &mut D::Hand,
+    held: &InHand<'_>,
+    prices: &Prices,
+    swept: &Swept<'_>,
+) -> Result<AfterSweep, D::Stop>
+    requires serves { D.serves desk.now hand.old }
+    ensures serves { D.serves desk.now hand.new }
+    ensures ends { Ends (D.holds desk.now held.now) (D.freed desk.now) hand.old hand.new (was_ended result) }
+{
+    let Some(number) = desk.post_prices(hand, held, prices)? else {
+        return Ok(AfterSweep::Open);
+    };
+    if desk.close_swept(hand, held, number, swept) {
+        Ok(AfterSweep::Closed)
+    } else {
+        Ok(AfterSweep::Open)
+    }
+}
+
+// Places the groups of an uncut plan that a sweep found: it is a better plan, or there are new cuts. Where
+// there is neither, the next sweep would find the same.
+fn place<D: Desk>(
+    desk: &D,
+    hand: &mut D::Hand,
+    memory: &mut Memory,
+    held: &InHand<'_>,
+    plan: UncutPlan,
+) -> Result<AfterSweep, D::Stop>
+    requires serves { D.serves desk.now hand.old }
+    requires node { IsNodeOf (D.instance desk.now) held.now.node.now }
+    ensures serves { D.serves desk.now hand.new }
+    ensures ends { Ends (D.holds desk.now held.now) (D.freed desk.now) hand.old hand.new (was_ended result) }
+{
+    let found = desk.place(hand, memory, held, plan)?;
+    let is_empty = found.is_empty();
+    carry_out(desk, hand, held, found)?;
+    if is_empty {
+        Ok(AfterSweep::Open)
+    } else {
+        Ok(AfterSweep::Again)
+    }
+}
+
+// Sweeps the next goal, and carries out what that shows.
+fn sweep_once<D: Desk>(
+    desk: &D,
+    hand: &mut D::Hand,
+    memory: &mut Memory,
+    pricing: &mut Pricing,
+    held: &InHand<'_>,
+    goals: &mut Goals,
+) -> Result<AfterSweep, D::Stop>
+    requires serves { D.serves desk.now hand.old }
+    requires node { IsNodeOf (D.instance desk.now) held.now.node.now }
+    ensures serves { D.serves desk.now hand.new }
+    ensures ends { Ends (D.holds desk.now held.now) (D.freed desk.now) hand.old hand.new (was_ended result) }
+{
+    desk.learn(hand, pricing, held)?;
+    let best = desk.best_cost(hand, held);
+    let goal = goals.next(best);
+    let prices = pricing.ascent.best().copy();
+    match pricing.sweep(desk.alloc(), desk.instance(), &prices, goal) {
+        Some(SweepEnd::Swept(swept)) if goal == best => {
+            close_swept(desk, hand, held, &prices, &swept)
+        }
+        Some(SweepEnd::Swept(_)) => {
+            goals.rise();
+            Ok(AfterSweep::Again)
+        }
+        Some(SweepEnd::Cheaper(plan)) => place(desk, hand, memory, held, plan),
+        None => Ok(AfterSweep::Open),
+    }
+}
+
+/// Sweeps costs from what the root reaches by its best prices up to the best cost, which closes it, as
+/// far as labels are left; whether it was closed.
+pub(crate) fn sweep_root<D: Desk>(
+    desk: &D,
+    hand: &mut D::Hand,
+    memory: &mut Memory,
+    pricing: &mut Pricing,
+    held: &InHand<'_>,
+) -> Result<bool, D::Stop>
+    requires serves { D.serves desk.now hand.old }
+    requires node { IsNodeOf (D.instance desk.now) held.now.node.now }
+    ensures serves { D.serves desk.now hand.new }
+    ensures ends { Ends (D.holds desk.now held.now) (D.freed desk.now) hand.old hand.new (was_closed result) }
+{
+    let mut goals = Goals {
+        reached: reached_by(pricing.ascent.best_sum()),
+        distance: 1,
+    };
+    for _ in 0..MOST_SWEEPS {
+        match sweep_once(desk, hand, memory, pricing, held, &mut goals)? {
+            AfterSweep::Closed => return Ok(true),
+            AfterSweep::Again => {}
+            AfterSweep::Open => return Ok(false),
+        }
+    }
+    Ok(false)
+}
