@@ -26,12 +26,12 @@ abbrev pub first_cut_mark : Numbering → ℕ
 first_cut_mark Few = 100
 first_cut_mark Many = 1000
 
--- a mark that names prices is two numbers, of which this is the first
+-- the first of the two numbers of a mark that names prices
 abbrev pub first_number : PriceMark → ℕ
 first_number pair.Reached = 4
 first_number pair.Swept = 5
 
--- and the version has it
+-- the version has marks of this kind
 abbrev pub has_mark : Version → PriceMark → Bool
 has_mark First kind = false
 has_mark Second kind = false
@@ -80,7 +80,7 @@ mark_of own numbering n =
     else (if n == 2 then Some (Leaf Throughput)
     else (if n == 3 then open_leaf own else naming_mark numbering n)))
 
--- the mark of a version that this number is the first of two of
+-- the mark of two numbers that this number begins in a version
 abbrev pub begun_by : Version → ℕ → Option PriceMark
 begun_by version n =
     if n == first_number pair.Reached && has_mark version pair.Reached then Some pair.Reached

@@ -76,7 +76,7 @@ fn first_number(kind: PriceMark) -> u64
     }
 }
 
-/// Whether a version has such marks.
+/// Whether a version has marks of this kind.
 fn has_mark(version: Version, kind: PriceMark) -> bool
     ensures { result ≡ has_mark version kind }
 {
@@ -151,7 +151,7 @@ fn mark_of(form: Form, numbering: Numbering, number: u64) -> Option<Mark>
     }
 }
 
-/// The mark of a version that a number is the first of two of.
+/// Which mark of two numbers a number begins in a version.
 fn begun_by(version: Version, number: u64) -> Option<PriceMark>
     ensures { result ≡ begun_by version number }
 {
