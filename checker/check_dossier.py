@@ -17,7 +17,7 @@ With `--open` it reads open dossiers, whose trees may have open leaves, and prin
                                              the status is 0 where both numbers are equal
 
 dossier_text.py reads the text, refutations.py says of decks which placements are legal and why ships share no lockage,
-times.py when a chamber is ready, price_bound.py what a node reaches by prices, and sweep.py whether a cost is swept. Here
+times.py when a chamber is ready, price_bound.py what a node reaches by prices, and sweeps.py whether a cost is swept. Here
 stand, in order: the plan, nodes and bounds, and last the check itself, which is short.
 """
 
@@ -27,11 +27,11 @@ import sys
 import time
 from collections import namedtuple
 
-from dossier_text import (BOUND, CLOSED_FORMS, FEW_SHIPS, FIRST_CUT, FIRST_PROBE, OPEN_FORMS, OPEN_LEAF, PRICE, SPLIT, THROUGHPUT,
-                          Answer, Named, read_dossier)
+from dossier_text import (BOUND, CLOSED_FORMS, FEW_SHIPS, FIRST_CUT, FIRST_PROBE, OPEN_FORMS, OPEN_LEAF, SPLIT, THROUGHPUT,
+                          Answer, Priced, Swept, read_dossier)
 from price_bound import PriceBound, hits_in
 from refutations import clash, deck_of, fits_alone, legal_placement, refutation_holds
-from sweep import is_swept
+from sweeps import Sweep
 from times import first_free, ready
 
 
@@ -59,15 +59,13 @@ def legal_lockage(instance, lockage):
     deck = deck_of(instance, lockage.chamber, lockage.ships)
     return (len(lockage.ships) <= instance.chambers[lockage.chamber].most
             and all(instance.ships[s].way == lockage.way for s in lockage.ships)
-            and not any(clash(a, b) for a in deck.sizes for b in deck.sizes)
-            and legal_placement(deck, lockage.spots))
+            and not any(clash(a, b) for a in deck.sizes for b in deck.sizes) and legal_placement(deck, lockage.spots))
 
 
 def legal_plan(instance, plan):
     served = sorted(s for lockage in plan for s in lockage.ships)
     by_start = sorted(plan, key=lambda lockage: lockage.start)
-    return (all(legal_lockage(instance, lockage) for lockage in plan)
-            and served == list(range(len(instance.ships)))
+    return (all(legal_lockage(instance, lockage) for lockage in plan) and served == list(range(len(instance.ships)))
             and all(lawful_starts(instance, chamber, [lockage for lockage in by_start if lockage.chamber == c])
                     for c, chamber in enumerate(instance.chambers)))
 
@@ -91,9 +89,6 @@ class Bounds:
         self.least_passage = [min(self.flow(c, ((ship.way, (s,)),)) for c, chamber in enumerate(self.chambers)
                                   if fits_alone(chamber, ship)) for s, ship in enumerate(self.ships)]
 
-    def missing(self, node):
-        return self.order[node.depth:]
-
     def joined(self, c, line, ship):
         """The lines of chamber c with one ship more: in each group that takes it, then as a group of its own."""
         way = self.ships[ship].way
@@ -104,9 +99,8 @@ class Bounds:
             yield line[:place] + ((way, (ship,)),) + line[place:]
 
     def children(self, node):
-        ship = self.order[node.depth]
         return [Node(node.depth + 1, node.lines[:c] + (longer,) + node.lines[c + 1:])
-                for c, line in enumerate(node.lines) for longer in self.joined(c, line, ship)]
+                for c, line in enumerate(node.lines) for longer in self.joined(c, line, self.order[node.depth])]
 
     def group(self, ships):
         """What the times of a group depend on: its latest arrival, all handling, all arrivals, its ships' number."""
@@ -120,14 +114,13 @@ class Bounds:
         for way, ships in line:
             latest, handling, arrivals, count = self.group(ships)
             length = chamber.passage + handling
-            minute = first_free(chamber, max(latest, ready(chamber, side, way, minute)), length) + length
-            side = 1 - way
+            minute, side = first_free(chamber, max(latest, ready(chamber, side, way, minute)), length) + length, 1 - way
             flow += count * minute - arrivals
         return flow
 
     def bound(self, node):
         return (sum(self.flow(c, line) for c, line in enumerate(node.lines))
-                + sum(self.least_passage[s] for s in self.missing(node)))
+                + sum(self.least_passage[s] for s in self.order[node.depth:]))
 
     def probe(self, node, ship):
         more = min(self.flow(c, longer) - self.flow(c, line)
@@ -164,8 +157,7 @@ def told(things, what):
 
 def check_cuts(instance, cuts):
     for number, (chamber, ships, why) in enumerate(told(cuts, "cut")):
-        named = chamber < len(instance.chambers) and all(s < len(instance.ships) for s in ships)
-        demand(named, f"cut {number}", "CutShape")
+        demand(chamber < len(instance.chambers) and max(ships) < len(instance.ships), f"cut {number}", "CutShape")
         demand(refutation_holds(deck_of(instance, chamber, ships), *why), f"cut {number}", "CutUnproved")
 
 
@@ -185,25 +177,24 @@ def check_tree(instance, cost, cuts, prices, marks):
         demand(due, place, "TreeLong")
         node = due.pop()
         if mark == SPLIT:
-            demand(bounds.missing(node), place, "SplitFull")
+            demand(node.depth < len(instance.ships), place, "SplitFull")
             due += reversed(bounds.children(node))
         elif mark == OPEN_LEAF:
             low = min(low, bounds.bound(node))
         elif mark == BOUND:
             demand(bounds.bound(node) >= cost, place, "BoundLow")
-        elif isinstance(mark, Named) and mark.by == PRICE:
+        elif isinstance(mark, Priced):
             demand(mark.number < len(prices) and priced.reaches(node, mark.number, cost), place, "PriceLow")
-        elif isinstance(mark, Named):
-            demand(mark.number < len(prices) and node.depth == 0
-                   and is_swept(instance, cuts, prices[mark.number], cost, told), place, "SweptWrong")
+        elif isinstance(mark, Swept):
+            demand(node.depth == 0 and mark.number < len(prices)
+                   and Sweep(instance, cuts, prices[mark.number], cost).is_swept(told), place, "SweptWrong")
         elif mark == THROUGHPUT:
             demand(throughput >= cost, place, "ThroughputLow")
         elif mark < first_cut:
             ship = mark - FIRST_PROBE
-            demand(ship in bounds.missing(node) and bounds.probe(node, ship) >= cost, place, "ProbeWrong")
+            demand(ship in bounds.order[node.depth:] and bounds.probe(node, ship) >= cost, place, "ProbeWrong")
         else:
-            number = mark - first_cut
-            demand(number < len(cuts) and cut_hits(instance, cuts[number], node), place, "CutMisses")
+            demand(mark - first_cut < len(cuts) and cut_hits(instance, cuts[mark - first_cut], node), place, "CutMisses")
     demand(not due, f"tree {len(marks)}", "TreeShort")
     return low
 
@@ -233,8 +224,7 @@ def answer(data, is_open=False):
 
 def main():
     words = argparse.ArgumentParser(description="Checks a dossier of a ship lock and prints what `glock check` prints.")
-    words.add_argument("--open", action="store_true",
-                       help="read an open dossier (line `certificate open`) and print `lower LOW cost N`")
+    words.add_argument("--open", action="store_true", help="read an open dossier and print `lower LOW cost N`")
     words.add_argument("file", nargs="?", help="the dossier; standard input where it isn't given")
     given = words.parse_args()
     try:

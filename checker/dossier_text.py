@@ -5,6 +5,7 @@ mean is checked elsewhere (check_dossier.py). Comments name headings of the page
 """
 
 import functools
+import itertools
 import json
 import math
 import re
@@ -20,9 +21,11 @@ class Refused(Exception):
     """What is asked doesn't hold: carries the kind of a defect where one is named, and then its line."""
 
 
-def require(holds, *kind):
+def require(holds, *kind, value=None):
+    """The value, where what is asked of it holds."""
     if not holds:
         raise Refused(*kind)
+    return value
 
 
 # The instance text (formats.md, Instance text) -----------------------------------------------------------------------
@@ -50,14 +53,12 @@ def number_in(least, greatest, word):
 
 
 def choice_of(choices, word):
-    require(word in choices, "Word")
-    return choices.index(word)
+    return choices.index(require(word in choices, "Word", value=word))
 
 
 def name_of(word, others=()):
     require(re.fullmatch(rb"[A-Za-z0-9_-]{1,12}", word), "Name")
-    require(all(word != other.name for other in others), "Twice")
-    return word
+    return require(all(word != other.name for other in others), "Twice", value=word)
 
 
 def limits(least, greatest):
@@ -74,25 +75,21 @@ SHIP_WORDS = (WAY, LENGTH, LENGTH, MINUTE, MINUTE, limits(0, 9))
 def read_chamber(words, chambers):
     require(len(words) == 12, "Count")
     require(len(chambers) < 4, "Range")
-    called = name_of(words[1], chambers)
-    chamber = Chamber(called, *(read(word) for read, word in zip(CHAMBER_WORDS, words[2:])), [])
-    require(chamber.turn <= chamber.passage, "TurnOverPass")
-    chambers.append(chamber)
+    chamber = Chamber(name_of(words[1], chambers), *(read(word) for read, word in zip(CHAMBER_WORDS, words[2:])), [])
+    chambers.append(require(chamber.turn <= chamber.passage, "TurnOverPass", value=chamber))
 
 
 def read_ship(words, ships, version):
     require(len(words) == 7 or len(words) == 8 and version > 1, "Count")
     require(len(ships) < (SHIPS if version == 3 else FEW_SHIPS), "Range")
-    called = name_of(words[1], ships)
-    ships.append(Ship(called, *(read(word) for read, word in zip(SHIP_WORDS, (words + [b"0"])[2:8]))))
+    ships.append(Ship(name_of(words[1], ships), *(read(word) for read, word in zip(SHIP_WORDS, (words + [b"0"])[2:8]))))
 
 
 def read_closure(words, chambers):
     require(len(words) == 4, "Count")
     called = name_of(words[1])
     named = [chamber.closures for chamber in chambers if chamber.name == called]
-    require(named, "Unknown")
-    closures = named[0]
+    closures, = require(named, "Unknown", value=named)
     require(len(closures) < 8, "Range")
     start, stop = (MINUTE(word) for word in words[2:])
     require(start < stop and all(stop <= a or b <= start for a, b in closures), "Overlap")
@@ -105,8 +102,7 @@ def read_instance(text):
     version, chambers, ships, at = None, [], [], 1
     try:
         text.decode("utf-8")
-        for at, line in enumerate(text.split(b"\n"), 1):
-            words = words_of(line)
+        for at, words in enumerate(map(words_of, text.split(b"\n")), 1):
             if not words:
                 continue
             if version is None:
@@ -134,7 +130,6 @@ def read_instance(text):
 # The JSON text (dossier.md, What is JSON) ----------------------------------------------------------------------------
 
 STRING = re.compile(r'"(?:[^"\\]|\\.)*"', re.DOTALL)
-MOST_NESTED = 127
 
 
 def json_number(text):
@@ -146,11 +141,10 @@ def json_number(text):
 
 def read_json(data):
     """The value of a JSON text, read strictly: a ValueError for all that is none."""
-    text, depth = data.decode("utf-8"), 0
-    for sign in re.findall(r"[][{}]", STRING.sub("", text)):
-        depth += 1 if sign in "[{" else -1
-        if depth > MOST_NESTED:
-            raise ValueError("nested too deep")
+    text = data.decode("utf-8")
+    steps = (1 if sign in "[{" else -1 for sign in re.findall(r"[][{}]", STRING.sub("", text)))
+    if max(itertools.accumulate(steps), default=0) > 127:
+        raise ValueError("nested too deep")
     value = json.loads(text, parse_int=json_number, parse_float=json_number, parse_constant=json_number)
     for string in STRING.findall(text):
         json.loads(string).encode("utf-8")  # half a surrogate pair has no UTF-8
@@ -159,19 +153,19 @@ def read_json(data):
 
 # The form of a dossier (dossier.md, The object; What has the form) ---------------------------------------------------
 
+SPLIT, BOUND, THROUGHPUT, OPEN_LEAF, PRICE, SWEEP, FIRST_PROBE = 0, 1, 2, 3, 4, 5, 10
+# marks of two numbers, of which the second says which prices
+Priced, Swept = namedtuple("Priced", "number"), namedtuple("Swept", "number")
+THIRD, FOURTH = {PRICE: Priced}, {PRICE: Priced, SWEEP: Swept}
 # The line that begins a dossier's second part says what the object may hold. Its plan has at most so many lockages, and
 # a list of prices so many numbers, as the greater of the few ships and those of the instance.
-Form = namedtuple("Form", "keys reasons open_leaves named ships", defaults=[FEW_SHIPS])
+Form = namedtuple("Form", "reasons pairs open_leaves ships", defaults=[{}, False, FEW_SHIPS])
 KEYS = ("cost", "cuts", "plan", "tree")
 PRICED_KEYS = KEYS + ("prices",)
-SPLIT, BOUND, THROUGHPUT, OPEN_LEAF, PRICE, SWEEP, FIRST_PROBE = 0, 1, 2, 3, 4, 5, 10
-CLOSED_FORMS = {(b"certificate",): Form(KEYS, range(5), False, ()),
-                (b"certificate", b"2"): Form(KEYS, range(6), False, ()),
-                (b"certificate", b"3"): Form(PRICED_KEYS, range(7), False, (PRICE,)),
-                (b"certificate", b"4"): Form(PRICED_KEYS, range(7), False, (PRICE, SWEEP))}
-OPEN_FORMS = {(b"certificate", b"open"): Form(KEYS, range(6), True, ()),
-              (b"certificate", b"open", b"3"): Form(PRICED_KEYS, range(7), True, (PRICE,)),
-              (b"certificate", b"open", b"4"): Form(PRICED_KEYS, range(7), True, (PRICE, SWEEP))}
+CLOSED_FORMS = {(b"certificate",): Form(5), (b"certificate", b"2"): Form(6),
+                (b"certificate", b"3"): Form(7, THIRD), (b"certificate", b"4"): Form(7, FOURTH)}
+OPEN_FORMS = {(b"certificate", b"open"): Form(6, {}, True),
+              (b"certificate", b"open", b"3"): Form(7, THIRD, True), (b"certificate", b"open", b"4"): Form(7, FOURTH, True)}
 
 Certificate = namedtuple("Certificate", PRICED_KEYS, defaults=[()])
 Cut = namedtuple("Cut", "chamber ships why")  # why: the number of its kind, and the rest
@@ -182,19 +176,15 @@ BYTE, WORD, LONG = 2**8, 2**32, 2**64
 AREA, ROW, COLUMN, CASE_TREE, SPOT_TREE, CLASH, BERTH_TREE = range(7)
 NAMED_SHIPS = {AREA: (0, 0), ROW: (1, 8), COLUMN: (1, 8), CLASH: (2, 2)}
 LAST_PROBE, FIRST_CUT = (33, 105), (100, 1_000)  # of other instances, and of large ones
-GREATEST_PRICE = 1_000_000
-Named = namedtuple("Named", "by number")  # a mark of two numbers: PRICE or SWEEP, and which prices
 
 
 def whole(value, limit):
     """The value, where it is a whole number below the limit."""
-    require(type(value) is int and value < limit)
-    return value
+    return require(type(value) is int and value < limit, value=value)
 
 
 def items(value, least=0, most=sys.maxsize):
-    require(type(value) is list and least <= len(value) <= most)
-    return value
+    return require(type(value) is list and least <= len(value) <= most, value=value)
 
 
 def fields(value, names):
@@ -205,13 +195,12 @@ def fields(value, names):
 
 def rising(value, least=1, most=8):
     numbers = tuple(whole(number, BYTE) for number in items(value, least, most))
-    require(all(a < b for a, b in zip(numbers, numbers[1:])))
-    return numbers
+    return require(all(a < b for a, b in zip(numbers, numbers[1:])), value=numbers)
 
 
 def read_why(value, form):
     kind, rest = items(value, 1)[0], value[1:]
-    require(type(kind) is int and kind in form.reasons)
+    require(type(kind) is int and kind < form.reasons)
     if kind in (CASE_TREE, SPOT_TREE, BERTH_TREE):
         return kind, [whole(number, WORD) for number in rest]
     return kind, rising(rest, *NAMED_SHIPS[kind])
@@ -240,8 +229,8 @@ def read_plan(value, form):
 def read_tree(value, form):
     marks, numbers, is_large = [], iter(items(value)), form.ships > FEW_SHIPS
     for mark in numbers:
-        if type(mark) is int and mark in form.named:
-            mark = Named(mark, whole(next(numbers, None), 2**63))
+        if type(mark) is int and mark in form.pairs:
+            mark = form.pairs[mark](whole(next(numbers, None), 2**63))
         else:
             whole(mark, FIRST_CUT[is_large] + 2**63)
             require(mark in (SPLIT, BOUND, THROUGHPUT) or mark == OPEN_LEAF and form.open_leaves
@@ -251,7 +240,7 @@ def read_tree(value, form):
 
 
 def read_prices(value, form):
-    return [[whole(price, GREATEST_PRICE + 1) for price in items(prices, 1, form.ships)] for prices in items(value)]
+    return [[whole(price, 1_000_001) for price in items(prices, 1, form.ships)] for prices in items(value)]
 
 
 READERS = {"cost": lambda value, form: whole(value, LONG), "cuts": read_cuts, "plan": read_plan, "tree": read_tree,
@@ -259,10 +248,10 @@ READERS = {"cost": lambda value, form: whole(value, LONG), "cuts": read_cuts, "p
 
 
 def read_object(value, form):
-    part = 1
+    part, keys = 1, PRICED_KEYS if form.pairs else KEYS
     try:
-        contents, read = fields(value, form.keys), {}
-        for part, (key, content) in enumerate(zip(form.keys, contents), 2):
+        contents, read = fields(value, keys), {}
+        for part, (key, content) in enumerate(zip(keys, contents), 2):
             read[key] = READERS[key](content, form)
         return Certificate(**read)
     except Refused:
@@ -271,7 +260,6 @@ def read_object(value, form):
 
 def first_line(data, at, is_wanted):
     """The words of the first line from a place on whose words are wanted, and the place after that line."""
-    words = []
     for line in data[at:].split(b"\n"):
         at, words = at + len(line) + 1, words_of(line)
         if is_wanted(words):

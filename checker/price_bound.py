@@ -37,37 +37,38 @@ class Table:
     def __init__(self, instance, c, cuts, line, missing, prices):
         self.ships, self.chamber, self.cuts, self.line = instance.ships, instance.chambers[c], cuts, line
         self.missing, self.prices = missing, prices
-        self.alone = [[choice for choice in self.kept(way, ()) if choice.count > 0] for way in (0, 1)]
+        self.alone = [self.kept(way, ()) for way in (0, 1)]
         self.joined = [self.kept(way, own) for way, own in line]
         self.lockages = functools.lru_cache(maxsize=None)(self.lockages)
 
     def is_cut(self, ships, last):
         return any(cut <= ships for cut in self.cuts[last])
 
-    def grown(self, way, own):
-        """The own ships, and each uncut group of them and missing ones of the way, grown ship by ship. Where a missing ship
-        gains nothing even in the earliest lockage, it gains nothing in a larger group either."""
-        ships, least = [self.ships[s] for s in own], self.chamber.opens
+    def grown(self, way, own, missing, minute, slack=0):
+        """The own ships, and each uncut group of them and missing ones of the way, grown ship by ship, and what counts of it.
+        Where a missing ship gains nothing even in the earliest lockage, it gains nothing in a larger group either."""
+        ships = [self.ships[s] for s in own]
         due = [(frozenset(own), 0, inf, Choice(max([ship.arrival for ship in ships], default=0),
                 sum(ship.handling for ship in ships), len(own), 100 * sum(ship.arrival for ship in ships)))]
-        missing = [s for s in self.missing if self.ships[s].way == way]
+        missing = [s for s in missing if self.ships[s].way == way]
         while due:
             group, at, gains_before, choice = due.pop()
-            yield choice
+            if choice.count > 0:
+                yield group, choice
             for place in range(at, len(missing) if choice.count < self.chamber.most else 0):
                 s = missing[place]
                 pays, more = 100 * self.ships[s].arrival + self.prices[s], group | {s}
                 longer = Choice(max(choice.latest, self.ships[s].arrival), choice.handling + self.ships[s].handling,
                                 choice.count + 1, choice.paid + pays)
-                before, end = min(gains_before, pays), max(longer.latest, least) + self.chamber.passage + longer.handling
-                if 100 * end < before and not self.is_cut(more, s):
+                before, end = min(gains_before, pays), max(longer.latest, minute) + self.chamber.passage + longer.handling
+                if (choice.count == 0 or 100 * end < before + slack) and not self.is_cut(more, s):
                     due.append((more, place + 1, before, longer))
 
     def kept(self, way, own):
         """The grown groups, but each that has no fewer ships, no less handling, no earlier arrival and no more pay than
         another."""
         kept = []
-        for choice in sorted(self.grown(way, own), key=lambda choice: (-choice.paid, *choice[:3])):
+        for _, choice in sorted(self.grown(way, own, self.missing, self.chamber.opens), key=lambda it: (-it[1].paid, *it[1][:3])):
             if not any(a <= choice.latest and h <= choice.handling and c <= choice.count for a, h, c, _ in kept):
                 kept.append(choice)
         return kept

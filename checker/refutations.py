@@ -14,9 +14,8 @@ Size = namedtuple("Size", "length width cargo")
 
 
 def deck_of(instance, chamber, ships):
-    room = instance.chambers[chamber]
     sizes = [Size(ship.length, ship.width, ship.cargo) for ship in (instance.ships[s] for s in ships)]
-    return Deck(room.length, room.width, room.end, room.gap, room.side, sizes)
+    return Deck(*instance.chambers[chamber][1:6], sizes)  # length, width, end, gap and side
 
 
 def fits_alone(chamber, ship):
@@ -62,10 +61,9 @@ def berthed(deck, spots, i):
 
 
 def legal_placement(deck, spots):
-    ships = range(len(spots))
-    return (all(inside_along(deck, spots[i].x, deck.sizes[i]) and inside_across(deck, spots[i].y, deck.sizes[i])
-                for i in ships)
-            and all(apart(deck, spots[i], deck.sizes[i], spots[j], deck.sizes[j]) for j in ships for i in range(j))
+    laid, ships = list(zip(spots, deck.sizes)), range(len(spots))
+    return (all(inside_along(deck, spot.x, size) and inside_across(deck, spot.y, size) for spot, size in laid)
+            and all(apart(deck, *laid[i], *laid[j]) for j in ships for i in range(j))
             and all(berthed(deck, spots, i) for i in ships))
 
 
@@ -86,6 +84,8 @@ class Berths:
 
     A berth is a rank, 0 for left and 1 for right, and a host, None for the quay."""
 
+    empty = ()
+
     def __init__(self, deck):
         self.deck, self.ships = deck, range(len(deck.sizes))
         self.berths = [[(rank, host) for host in [None] + [k for k in self.ships if k != i] for rank in (0, 1)]
@@ -93,7 +93,7 @@ class Berths:
 
     def berth(self, taken, i):
         """The rank and the host of ship i, or None where they aren't decided."""
-        return self.berths[i][taken[self.berth_place(i)]] if self.berth_place(i) < len(taken) else None
+        return self.berths[i][taken[self.places[i]]] if self.places[i] < len(taken) else None
 
     def host(self, taken, i):
         return (self.berth(taken, i) or (None, None))[1]
@@ -116,26 +116,30 @@ class Berths:
     def leads_back(self, taken, i):
         host = self.host(taken, i)
         for _ in self.ships:
-            if host is not None and host != i:
-                host = self.host(taken, host)
+            host = host if host in (None, i) else self.host(taken, host)
         return host == i
+
+    def step(self, taken, kind, *named):
+        """The cases that follow: each option behind a split, and none behind a leaf whose fault stands. Else None."""
+        if kind == 0 and len(taken) < len(self.decisions):
+            return [(*taken, option) for option in range(len(self.decisions[len(taken)]))]
+        return [] if kind > 0 and self.leaf_holds(taken, kind, *named) else None
 
 
 class Case(Berths):
     """Cases and case trees: a decision is the list of its options, and an option is the list of its edges."""
 
+    size = staticmethod(lambda kind: 2 if kind == 1 else 1 + kind)
+
     def __init__(self, deck):
         super().__init__(deck)
-        self.room_edges, self.decisions = [], []
+        self.room_edges, self.decisions, self.places = [], [], [i * (i + 1) // 2 for i in self.ships]
         for i, size in enumerate(deck.sizes):
             x, y = 1 + 2 * i, 2 + 2 * i
             self.room_edges += [(0, x, deck.end), (x, 0, -(deck.length - deck.end - size.length)),
                                 (0, y, 0), (y, 0, -(deck.width - size.width))]
             self.decisions.append([self.berth_edges(i, *berth) for berth in self.berths[i]])
             self.decisions += [[[edge] for edge in self.order_edges(j, i)] for j in range(i)]
-
-    def berth_place(self, i):
-        return i * (i + 1) // 2
 
     def berth_edges(self, i, rank, k):
         deck, size, x, y = self.deck, self.deck.sizes[i], 1 + 2 * i, 2 + 2 * i
@@ -151,18 +155,14 @@ class Case(Berths):
         return [(x, other_x, a.length + gap), (other_x, x, b.length + gap),
                 (y, other_y, a.width + side), (other_y, y, b.width + side)]
 
-    def leaf_size(self, kind):
-        return 2 if kind == 1 else 1 + kind
-
     def leaf_holds(self, taken, kind, *named):
         """Whether the fault stands: a host of the other rank, or a closed walk of positive sum."""
         if kind == 1:
             return named[0] in self.ships and self.other_rank(taken, named[0])
         edges = sum((options[option] for options, option in zip(self.decisions, taken)), self.room_edges)
-        if max(named) >= len(edges):
-            return False
-        walk = [edges[number] for number in named]
-        return all(a[1] == b[0] for a, b in zip(walk, walk[1:] + walk[:1])) and sum(edge[2] for edge in walk) > 0
+        walk = [edges[number] for number in named if number < len(edges)]
+        return (len(walk) == len(named) and all(a[1] == b[0] for a, b in zip(walk, walk[1:] + walk[:1]))
+                and sum(edge[2] for edge in walk) > 0)
 
 
 def spot_values(deck):
@@ -181,19 +181,15 @@ def spot_values(deck):
 class SpotCase(Berths):
     """Spot values and spot trees: for each ship its berth is decided and then its x, one of the spot values."""
 
+    size = {0: 1, 1: 2, 2: 2, 3: 2, 4: 2, 5: 3}.get
+
     def __init__(self, deck):
         super().__init__(deck)
-        self.values = spot_values(deck)
+        self.values, self.places = spot_values(deck), [2 * i for i in self.ships]
         self.decisions = [options for i in self.ships for options in (self.berths[i], self.values)]
-
-    def berth_place(self, i):
-        return 2 * i
 
     def x(self, taken, i):
         return self.values[taken[2 * i + 1]] if 2 * i + 1 < len(taken) else None
-
-    def leaf_size(self, kind):
-        return {1: 2, 2: 2, 3: 2, 4: 2, 5: 3}.get(kind)
 
     def leaf_holds(self, taken, kind, i, *named):
         """Whether the fault stands: a host of the other rank, a ring of hosts, outside, off its host, not apart."""
@@ -214,34 +210,10 @@ class SpotCase(Berths):
         return None not in corner + other_corner and not apart(deck, corner, sizes[i], other_corner, sizes[other])
 
 
-def refutes(case, numbers):
-    """Whether the numbers are exactly one tree of the empty case: each node is split, or a leaf whose fault stands.
-
-    The options taken go up like an odometer, so nothing recurses."""
-    at, taken = 0, []
-    while at < len(numbers):
-        if numbers[at] == 0:
-            if len(taken) == len(case.decisions):
-                return False
-            at += 1
-            if case.decisions[len(taken)]:
-                taken.append(0)
-                continue
-        else:
-            size = case.leaf_size(numbers[at])
-            if size is None or at + size > len(numbers) or not case.leaf_holds(taken, *numbers[at:at + size]):
-                return False
-            at += size
-        while taken and taken[-1] + 1 == len(case.decisions[len(taken) - 1]):
-            taken.pop()
-        if not taken:
-            return at == len(numbers)
-        taken[-1] += 1
-    return False
-
-
 class BerthCase(Berths):
     """Berth cases: `taken` is the berths of the ships that have one, by ship, and the pairs of which the first lies before."""
+
+    empty, size = ({}, frozenset()), {0: 2, 1: 2, 2: 2, 3: 2, 4: 2, 5: 2, 6: 2, 7: 3, 8: 1}.get
 
     def berth(self, taken, i):
         return taken[0].get(i)
@@ -264,9 +236,8 @@ class BerthCase(Berths):
         deck, x = self.deck, [self.deck.end for _ in self.ships]
         lengths = [size.length for size in deck.sizes]
         steps = [(i, j, lengths[i] + deck.gap) for i, j in taken[1]]
-        for i in self.ships:
-            if self.host(taken, i) is not None:
-                steps += [(self.host(taken, i), i, 0), (i, self.host(taken, i), lengths[i] - lengths[self.host(taken, i)])]
+        for i, host in ((i, self.host(taken, i)) for i in self.ships if self.host(taken, i) is not None):
+            steps += [(host, i, 0), (i, host, lengths[i] - lengths[host])]
         for _ in range(len(x) + 1):
             before = list(x)
             for low, high, step in steps:
@@ -275,9 +246,11 @@ class BerthCase(Berths):
                 return not all(inside_along(deck, at, size) for at, size in zip(x, deck.sizes))
         return True
 
-    def leaf_holds(self, taken, kind, i):
+    def leaf_holds(self, taken, kind, i=None):
         """Whether the fault stands: a host of the other rank, a ring of hosts, a host that is shorter, outside across,
-        guests that are too many, a crowd."""
+        guests that are too many, a crowd, no places."""
+        if kind == 8:
+            return self.no_places(taken)
         if kind == 6:
             return 0 < i < 2**len(self.ships) and self.is_crowd(taken, [s for s in self.ships if i >> s & 1])
         if i not in self.ships:
@@ -291,35 +264,30 @@ class BerthCase(Berths):
             return y is not None and not inside_across(self.deck, y, sizes[i])
         return self.row_length(s for s in self.ships if self.host(taken, s) == i) > sizes[i].length + self.deck.gap
 
-    def split(self, taken, kind, *named):
-        """The cases that a split goes on with: each berth of a ship, or both orders of two. None where it is no split."""
+    def step(self, taken, kind, *named):
+        """The cases that follow: behind a split each berth of a ship, or both orders of two that overlap."""
         berths, orders = taken
-        if kind == 0:
-            i, = named
-            return [({**berths, i: berth}, orders) for berth in self.berths[i]] if i in self.ships and i not in berths else None
-        i, j = named
-        if i == j or not self.overlap(taken, i, j) or (i, j) in orders or (j, i) in orders:
-            return None
-        return [(berths, orders | {(i, j)}), (berths, orders | {(j, i)})]
+        if kind == 0 and named[0] in self.ships and named[0] not in berths:
+            return [({**berths, named[0]: berth}, orders) for berth in self.berths[named[0]]]
+        if kind == 7 and named[0] != named[1] and self.overlap(taken, *named) and not orders & {named, named[::-1]}:
+            return [(berths, orders | {named}), (berths, orders | {named[::-1]})]
+        return [] if kind not in (0, 7) and self.leaf_holds(taken, kind, *named) else None
 
 
-def is_berth_tree(deck, numbers):
-    """Whether the numbers are exactly one tree of the berth case that decides nothing; the cases to come are a stack."""
-    case, due, at = BerthCase(deck), [({}, frozenset())], 0
-    while due:
-        taken, kind = due.pop(), numbers[at] if at < len(numbers) else None
-        size = {0: 2, 1: 2, 2: 2, 3: 2, 4: 2, 5: 2, 6: 2, 7: 3, 8: 1}.get(kind)
-        if size is None or at + size > len(numbers):
+TREES = {CASE_TREE: Case, SPOT_TREE: SpotCase, BERTH_TREE: BerthCase}
+
+
+def is_tree(case, numbers):
+    """Whether the numbers are exactly one tree of the case that decides nothing; the cases to come are a stack."""
+    due, at = [case.empty], 0
+    while due and at < len(numbers):
+        size = case.size(numbers[at])
+        more = None if size is None or at + size > len(numbers) else case.step(due.pop(), *numbers[at:at + size])
+        if more is None:
             return False
-        named, at = numbers[at + 1:at + size], at + size
-        if kind in (0, 7):
-            more = case.split(taken, kind, *named)
-            if more is None:
-                return False
-            due += reversed(more)
-        elif not (case.no_places(taken) if kind == 8 else case.leaf_holds(taken, kind, *named)):
-            return False
-    return at == len(numbers)
+        due += reversed(more)
+        at += size
+    return not due and at == len(numbers)
 
 
 def refutation_holds(deck, kind, rest):
@@ -327,10 +295,8 @@ def refutation_holds(deck, kind, rest):
     if kind == AREA:
         covered = sum((size.length + deck.gap) * (size.width + deck.side) for size in deck.sizes)
         return covered > (room + deck.gap) * (deck.width + deck.side)
-    if kind in (CASE_TREE, SPOT_TREE):
-        return refutes(Case(deck) if kind == CASE_TREE else SpotCase(deck), rest)
-    if kind == BERTH_TREE:
-        return is_berth_tree(deck, rest)
+    if kind in TREES:
+        return is_tree(TREES[kind](deck), rest)
     if any(i >= len(deck.sizes) for i in rest):
         return False
     sizes = [deck.sizes[i] for i in rest]

@@ -5,7 +5,7 @@ explain_plan() {
     "plan line "*)
       explain_line plan "$((${parts[2]} + $(end_of_instance)))" "${parts[4]}" "${parts[5]}"
       if [ "$command" = picture ] && [ "${parts[5]}" = NoMark ]; then
-        say "a dossier has one of these lines there: certificate, certificate 2, 3 or 4, certificate open, certificate open 3 or 4"
+        say "a dossier has one of these lines there: certificate, certificate 2, certificate 3, certificate 4, certificate open, certificate open 3, certificate open 4"
       fi
       if [ "$command" = replan ] && [ "${parts[5]}" = Unknown ]; then tell_withdrawn; fi
       ;;

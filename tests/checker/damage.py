@@ -13,6 +13,7 @@ VALUES = [0, 1, 2, 7, 10, 11, 100, 255, 256, 257, 2**32, -1, 1.5, True, None, ""
 STRINGS = [r'"cost"', r'"\u0063ost"', r'"\ud800"', r'"\udc00"', r'"\ud83d\ude00"', r'"\ud83d\u0041"', r'"\x"', r'"\u12g4"',
            '"a\tb"', '"é"', '"', "true", "null", "Infinity", "{}", "[", "]", "[]", ",", ":", " ", "\n", "[" * 127 + "]" * 127]
 LINES = [b"certificate", b"certificate 2", b"certificate open", b"certificate 3", b"certificate open 3", b"certificate 4",
+         b"certificate open 4", b"certificate 5",
          b"certificate open 2", b"certificate 02", b"Certificate",
          b" \tcertificate\t2 # words", b"# only a comment", b"", b"\r", b"certificate 2 3", b"\xff", b"# \xff", b"end",
          b"end # here", b"end end", b"glock 1", b"glock 2", b"glock 3", b"glock 4", b"close c1 0 20", b"close c1 10 30", b"close c9 0 1",

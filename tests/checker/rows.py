@@ -17,8 +17,8 @@ from check_dossier import answer
 from texts import judged, solved
 from worked_refutations import REFUTED, asking
 
-CHECKER, MOST_LINES = pathlib.Path(__file__).resolve().parents[2] / "checker", 770
-JUDGING = "check_dossier dossier_text price_bound refutations sweep times".split()
+CHECKER, MOST_LINES = pathlib.Path(__file__).resolve().parents[2] / "checker", 700
+JUDGING = "check_dossier dossier_text price_bound refutations sweeps times".split()
 ROWS = pathlib.Path(__file__).resolve().parents[1] / "rows"
 sys.path.append(str(ROWS))
 from read_rows import ASKED, rows_of
@@ -66,8 +66,9 @@ certificate
 "spots":[[10,0,0,0]],"start":0,"way":0}],"tree":[0,1,100]}
 """
 
-# the same, by a sweep of the root
-SWEPT = (SECOND.replace("certificate\n", "certificate 4\n").replace('"tree":[0,0,100,1,1]', '"prices":[[8500,8500]],"tree":[5,0]'))
+# the same as SECOND, by a sweep of the root
+SWEPT = SECOND.replace("certificate", "certificate 4").replace('"tree":[0,0,100,1,1]', '"prices":[[8500,8500]],"tree":[5,0]')
+
 # one up and one down, which never share a lockage
 BOTH_WAYS = SECOND.replace("s2 up", "s2 down").replace('50,"way":0', '35,"way":1').replace("120", "105").replace(
     "[0,0,100,1,1]", "[0,0,1,1]")
@@ -115,15 +116,12 @@ def one_by_one(ships):
 
 FEW, LARGE, LARGEST, ROOT = one_by_one(24), one_by_one(25), one_by_one(96), '"tree":[1]'
 
-SWEPT_LARGE = LARGE.replace("certificate 3", "certificate 4").replace('"prices":[]', f'"prices":[{[3500] * 25}]').replace(ROOT, '"tree":[5,0]')
-
 WIDE = "s1 up 1100 114", "s1 up 1100 241"
 PART = "dossier fault 4 Shape part {}".format
 FIRST_TREE, SECOND_TREE = "[0,0,1,1,1]", "[0,0,100,1,1]"
 WHY, SPOTS = '"why":[1,0,1]', '"ships":[0],"spots":[[10,0,0,0]]'
 ACCEPTED, JSON, NO_MARK = "accepted cost 120", "dossier fault 3 Json", "dossier fault 2 NoMark"
-SWEPT_WRONG = "rejected tree {} reason 14 SweptWrong".format
-WHY_CUT = '{"chamber":0,"ships":[0,1],"why":[1,0,1]}'
+SWEPT_WRONG = "rejected tree 0 reason 14 SweptWrong"
 UNPROVED, ILLEGAL = "rejected cut 0 reason 4 CutUnproved", "rejected plan reason 1 PlanIllegal"
 LAST_LINE, AFTER_END = SECOND.splitlines()[-1], SECOND[SECOND.index("certificate"):]
 
@@ -259,6 +257,7 @@ CHECKED = [
     *((FIRST, "certificate\n", heading, NO_MARK) for heading in (
         "", "certificates\n", "certificate open\n", "certificate 2 2\n", "certificate 5\n", "certificate 03\n",
         "certificate open 3\n")),
+    *((FIRST, "certificate\n", f"certificate {version}\n", PART(1)) for version in (3, 4)),
     # more marks that don't hold where they stand
     (SECOND, SECOND_TREE, "[0,1]", "rejected tree 1 reason 8 BoundLow"),
     (SECOND, SECOND_TREE, "[0,0,100,100,1]", "rejected tree 3 reason 9 CutMisses"),
@@ -294,13 +293,17 @@ CHECKED = [
     (LARGE.replace('"prices":[]', f'"prices":[{[3500] * 25}]'), ROOT, '"tree":[4,0]', "accepted cost 875"),
     (LARGE.replace('"prices":[]', f'"prices":[{[3499] * 25}]'), ROOT, '"tree":[4,0]', "accepted cost 875"),
     (LARGE.replace('"prices":[]', f'"prices":[{[3495] * 25}]'), ROOT, '"tree":[4,0]', "rejected tree 0 reason 13 PriceLow"),
-    # sweeps of the root
-    (SWEPT, "", "", ACCEPTED), (SWEPT, "[8500,8500]", "[0,1000000]", ACCEPTED), (SWEPT, WHY_CUT, "", SWEPT_WRONG(0)),
-    (SWEPT, "[[8500,8500]]", "[[]]", PART(6)), (SWEPT, "[[8500,8500]]", "[]", SWEPT_WRONG(0)), (SWEPT, "certificate 4", "certificate 3", PART(5)),
-    *((SWEPT, "[5,0]", tree, line) for tree, line in (
-        ("[5,1]", SWEPT_WRONG(0)), ("[0,5,0,1]", SWEPT_WRONG(1)), ("[5,0,1]", "rejected tree 1 reason 6 TreeLong"), ("[5]", PART(5)),
-        (f"[5,{2**63 - 1}]", SWEPT_WRONG(0)), (f"[5,{2**63}]", PART(5)))),
-    (SWEPT_LARGE, "", "", "accepted cost 875"), (SWEPT_LARGE, "60 5\n", "59 5\n", "rejected cost reason 2 CostWrong"),
+    # roots that are closed by a sweep, by prices that come near to the cost and by ones that don't, with and without the cut
+    *((SWEPT, '"tree":[5,0]', f'"tree":{tree}', line) for tree, line in (
+        ("[5,0]", ACCEPTED), ("[5,1]", SWEPT_WRONG), ("[5,9223372036854775807]", SWEPT_WRONG), ("[5,9223372036854775808]", PART(5)),
+        ("[5]", PART(5)), ("[5,-1]", PART(5)), ("[6,0]", PART(5)), ("[5,0,5]", PART(5)), ("[5,0,1]", "rejected tree 1 reason 6 TreeLong"),
+        ("[0,5,0]", "rejected tree 1 reason 14 SweptWrong"), ("[0,0,100,5,0,1]", "rejected tree 3 reason 14 SweptWrong"), ("[4,0]", ACCEPTED),
+        ("[3]", PART(5)))),
+    *((SWEPT, "[[8500,8500]]", prices, line) for prices, line in (
+        ("[[0,0]]", ACCEPTED), ("[[1000000,1000000]]", ACCEPTED), ("[]", SWEPT_WRONG), ("[[0]]", "rejected prices 0 reason 12 PricesShape"))),
+    (SWEPT, '[{"chamber":0,"ships":[0,1],"why":[1,0,1]}]', "[]", SWEPT_WRONG), (SWEPT, "20 5 4 30", "20 5 1 30", ACCEPTED),
+    (SWEPT, "certificate 4", "certificate 3", PART(5)), (SWEPT, "certificate 4", "certificate 2", PART(1)),
+    (SWEPT.replace('"start":50', '"start":51'), '"cost":120', '"cost":121', SWEPT_WRONG),
     # worked refutations
     *((asking(deck, why), "", "", "rejected tree 0 reason 5 TreeShort" if holds else UNPROVED) for deck, why, holds in REFUTED),
     # an instance text of any length; a word after the line's words; a line of words that aren't UTF-8
@@ -325,11 +328,15 @@ OPENED = [
         ("[0,0,3,1]", "rejected tree 4 reason 5 TreeShort"), ("[3,3]", "rejected tree 1 reason 6 TreeLong"),
         ("[0,0,0,1,1]", "rejected tree 2 reason 7 SplitFull"), ("[0,0,100,3,3]", "rejected tree 2 reason 9 CutMisses"),
         ("[4]", PART(5)), ("[34]", PART(5)), ("[4,0]", PART(5)))),
-    (SWEPT, "certificate 4", "certificate open 4", "lower 120 cost 120"), (SWEPT, "certificate 4", "certificate open 3", PART(5)),
+    *((SWEPT.replace("certificate 4", "certificate open 4"), "[5,0]", tree, line) for tree, line in (
+        ("[5,0]", "lower 120 cost 120"), ("[3]", "lower 70 cost 120"), ("[5,1]", SWEPT_WRONG), ("[0,3,5]", PART(5)),
+        ("[0,5,0]", "rejected tree 1 reason 14 SweptWrong"))),
+    (SWEPT, "certificate 4", "certificate open 3", PART(5)), (SWEPT, "", "", NO_MARK),
     # faults, and lenient reading
     *((OPEN, "certificate open", heading, line) for heading, line in (
-        ("certificate", NO_MARK), ("certificate 2", NO_MARK), ("certificate 3", NO_MARK), ("certificate open 2", NO_MARK),
-        ("certificate open 3", PART(1)))),
+        ("certificate", NO_MARK), ("certificate 2", NO_MARK), ("certificate 3", NO_MARK), ("certificate 4", NO_MARK),
+        ("certificate open 2", NO_MARK), ("certificate open 5", NO_MARK), ("certificate open 3", PART(1)),
+        ("certificate open 4", PART(1)))),
     (OPEN, '{"cost"', '"cost"', JSON), (OPEN, '"cost":120', '"price":120', PART(1)), (OPEN, '"cost":120', '"cost":120.0', PART(2)),
     (OPEN, '"cuts":[]', '"cuts":3', PART(3)), (OPEN, "[[10,0,0,0]]", "[]", PART(4)),
     *((OPEN, old, new, "lower 80 cost 120") for old, new in (
@@ -345,9 +352,10 @@ LIMITED = [(FAR_APART, "", "", PRICE_LOW), (FAR_APART, PRICES, str([[1_000_000] 
 
 def priced_rows():
     """The rows of dossiers with prices that both checkers are held against: data, line, status, and whether it is open."""
-    for _, words, data, asked in rows_of(ROWS / "priced_dossiers.rows", ("status", "line", "first")):
-        if words[0] in (b"check", b"lower"):
-            yield data, (asked["line"][0], int(asked["status"][0])), words[0] == b"lower"
+    for name in ("priced_dossiers.rows", "swept_dossiers.rows"):
+        for _, words, data, asked in rows_of(ROWS / name, ("status", "line", "first")):
+            if words[0] in (b"check", b"lower"):
+                yield data, (asked["line"][0], int(asked["status"][0])), words[0] == b"lower"
 
 
 def text_rows():

@@ -1,11 +1,10 @@
-"""Dossiers made of ones that a program wrote: with price marks, with a swept root, and with another tree somewhere in their
-tree."""
+"""Dossiers made of ones that a program wrote: with price marks, with a swept root, and with another tree somewhere in their tree."""
 
 import json
 
 import texts
 from check_dossier import Bounds, Node, end_of
-from dossier_text import BOUND, FEW_SHIPS, FIRST_CUT, FIRST_PROBE, OPEN_LEAF, PRICE, SPLIT, SWEEP, THROUGHPUT, Named
+from dossier_text import BOUND, FEW_SHIPS, FIRST_CUT, FIRST_PROBE, OPEN_LEAF, PRICE, SPLIT, SWEEP, THROUGHPUT, Priced, Swept
 from price_bound import PriceBound
 
 
@@ -14,7 +13,8 @@ def written(instance, certificate, is_open, line):
     plan = [{"chamber": each.chamber, "ships": list(each.ships), "spots": [list(spot) for spot in each.spots],
              "start": each.start, "way": each.way} for each in certificate.plan]
     cuts = [{"chamber": cut.chamber, "ships": list(cut.ships), "why": [cut.why[0], *cut.why[1]]} for cut in certificate.cuts]
-    tree = [number for mark in certificate.tree for number in (list(mark) if isinstance(mark, Named) else [mark])]
+    signs = {Priced: PRICE, Swept: SWEEP}
+    tree = [number for mark in certificate.tree for number in ([signs[type(mark)], mark.number] if type(mark) in signs else [mark])]
     value = {"cost": certificate.cost, "cuts": cuts, "plan": plan, "tree": tree}
     if line.endswith((b" 3", b" 4")):
         value["prices"] = list(certificate.prices)
@@ -52,16 +52,17 @@ def priced(instance, certificate, is_open):
     while place < len(nodes):
         node, mark, behind = nodes[place]
         reached = [v for v in range(len(prices)) if bound.reaches(node, v, certificate.cost)]
-        tree.append(Named(PRICE, reached[0]) if reached else mark)
+        tree.append(Priced(reached[0]) if reached else mark)
         place = behind if reached else place + 1
     line = b"certificate open 3" if is_open else b"certificate 3"
     return written(instance, certificate._replace(prices=prices, tree=tree), is_open, line)
 
 
-def swept(instance, certificate):
-    """The dossier of the fourth version whose root a sweep ends, whether or not the cost is swept."""
+def swept(instance, certificate, is_open):
+    """The dossier of the fourth version whose root is closed by a sweep, which holds where the certificate has the cuts for it."""
     prices = list(certificate.prices) or prices_of(instance, certificate.plan)
-    return written(instance, certificate._replace(prices=prices, tree=[Named(SWEEP, 0)]), False, b"certificate 4")
+    line = b"certificate open 4" if is_open else b"certificate 4"
+    return written(instance, certificate._replace(prices=prices, tree=[Swept(0)]), is_open, line)
 
 
 def grafted(instance, certificate, is_open, line, dice):
@@ -72,13 +73,13 @@ def grafted(instance, certificate, is_open, line, dice):
     node, _, behind = nodes[place]
 
     def leaf(node):
-        missing, marks = bounds.missing(node), [BOUND, BOUND, THROUGHPUT] + [OPEN_LEAF] * is_open
+        missing, marks = bounds.order[node.depth:], [BOUND, BOUND, THROUGHPUT] + [OPEN_LEAF] * is_open
         marks += [FIRST_PROBE + s for s in missing[:1]] + [first_cut + dice.below(len(certificate.cuts) + 1)]
-        named = {b" 3": [PRICE] * 2, b" 4": [PRICE] * 2 + [SWEEP] * 2}.get(line[-2:], [])
-        marks += [Named(by, dice.below(len(certificate.prices) + 1)) for by in named]
+        marks += [Priced(dice.below(len(certificate.prices) + 1))] * 2 if line.endswith((b" 3", b" 4")) else []
+        marks += [Swept(dice.below(len(certificate.prices) + 1))] * 2 if line.endswith(b" 4") else []
         return dice.pick(marks)
 
-    is_split = bool(bounds.missing(node)) and dice.below(3) > 0
+    is_split = node.depth < len(instance.ships) and dice.below(3) > 0
     tree = [SPLIT] + [leaf(child) for child in bounds.children(node)] if is_split else [leaf(node)]
     marks = certificate.tree[:place] + tree + certificate.tree[behind:]
     return written(instance, certificate._replace(tree=marks), is_open, line)

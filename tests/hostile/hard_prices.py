@@ -62,7 +62,7 @@ def all_leaves(dossier):
     due = [Node(0, ((),) * len(instance.chambers))]
     while due:
         node = due.pop()
-        if bounds.missing(node):
+        if bounds.order[node.depth:]:
             tree.append(0)
             due += reversed(bounds.children(node))
         else:

@@ -33,7 +33,7 @@ from read_rows import ASKED, rows_of
 from runs import EXAMPLES, crowd
 
 SECONDS, SHOWN, TOLD = 60, 10, 100_000
-LARGEST, MOST_FURTHER, FEW = 3000, 300, 8  # bytes of a seed, seeds, ships that a sweep of the second checker serves at once
+LARGEST, MOST_FURTHER, SWEPT = 3000, 300, 6
 SEARCH = "solve --workers 1 --dossier --keep --nodes".split()
 
 
@@ -138,8 +138,10 @@ def seeds(program):
                 continue
             instance, certificate = read_dossier(dossier, OPEN_FORMS if status else CLOSED_FORMS)
             plans.append(texts.canonical(instance) + texts.text_of(certificate.plan, instance))
-            dossiers += [dossier, priced(instance, certificate, status == 1)] if len(dossier) <= LARGEST else []
-            dossiers += [swept(instance, certificate)] if status == 0 and len(instance.ships) <= FEW else []
+            if len(dossier) <= LARGEST:
+                dossiers += [dossier, priced(instance, certificate, status == 1)]
+            if len(instance.ships) <= SWEPT:
+                dossiers.append(swept(instance, certificate, status == 1))
     plans.append(b"".join((EXAMPLES / f"evening{end}").read_bytes() for end in (".lock", ".plan")))
     kinds = {b"solve": instances, b"judge": plans, b"play": plans, b"check": dossiers, b"lower": dossiers}
     for path in sorted((HERE.parent / "rows").glob("*.rows")):

@@ -219,5 +219,5 @@ rows bad_dossier <<'ROWS'
 6s/$/ 3/;7s/"tree.*/"prices":[[-1]],"tree":[4,0]}/ | dossier fault 4 Shape part 6 | : fault 4 Shape: the entry prices
 6s/$/ 3/;7s/"tree.*/"prices":[[8500]],"tree":[4,0]}/ | rejected prices 0 reason 12 PricesShape | : rejected at prices 0: these prices are not
 6s/$/ 3/;7s/"tree.*/"prices":[[8400,8400]],"tree":[4,0]}/ | rejected tree 0 reason 13 PriceLow | : rejected at tree 0: a case is closed by prices
-6s/$/ 4/;7s/"tree.*/"prices":[[8500,8500]],"tree":[5,1]}/ | rejected tree 0 reason 14 SweptWrong | : rejected at tree 0: all cases are closed by a sweep
+6s/$/ 4/;7s/"tree.*/"prices":[[8500,8500]],"tree":[5,1]}/ | rejected tree 0 reason 14 SweptWrong | : rejected at tree 0: a case is closed by a sweep
 ROWS

@@ -1,7 +1,6 @@
 -- Certificates are read back.
 use Rattle.std.proofs.Common.{◌≡◌, ◌∙◌, ℕ, false, List, Some, refl, sym, ap, subst, All}
 use Rattle.std.specs.Prelude.{not, Ok}
-use Rattle.std.specs.List.{list_any}
 use Rattle.serde_json.specs.Data.{Data}
 use Rattle.serde_json.proofs.OnLiterals.{serde_json_on_literals}
 use Rattle.lock_model.specs.declared.ship.Ship.{Ship}
@@ -14,17 +13,17 @@ use Rattle.certificate_rules.specs.WellFormed.{numbering_of, AreFormedPrices, Is
 use Rattle.lock_model.specs.Fleet.{most_lockages}
 use Rattle.cert_text.specs.declared.heading.Form.{Form}
 use Rattle.cert_text.specs.declared.heading.Version.{Version}
-use Rattle.cert_text.specs.declared.heading.Version.TheVariants.{First, Second, Third}
+use Rattle.cert_text.specs.declared.heading.Version.TheVariants.{First, Second, Third, Fourth}
 use Rattle.cert_text.specs.Answers.{IsFault}
 use Rattle.cert_text.specs.Steps.{◌>>=◌, ◌>>◌, when, fault_under}
 use Rattle.cert_text.specs.declared.bad.BadDossier.TheVariants.{Shape}
 use Rattle.cert_text.specs.declared.bad.DossierError.{DossierError}
-use Rattle.cert_text.specs.Versions.{is_third, has_outside, version_of}
+use Rattle.cert_text.specs.Versions.{has_outside, version_of}
 use Rattle.cert_text.specs.Cuts.{cuts_data, cuts_in, cuts_under}
 use Rattle.cert_text.specs.Plans.{plan_data, plan_in, IsPlanBack}
 use Rattle.cert_text.specs.Trees.{tree_data, tree_in}
 use Rattle.cert_text.specs.Certificates.{parts_data, certificate_data, front_in, certificate_in, IsReadBack}
-use Rattle.cert_text.specs.Marks.{mark_numbers, AreOf, mark_in, is_price_mark}
+use Rattle.cert_text.specs.Marks.{mark_numbers, AreOf, mark_in}
 use Rattle.cert_text.proofs.MarkLemmas.{marks_back, formed_of}
 use Rattle.cert_text.proofs.TreeLemmas.{tree_back}
 use Rattle.cert_text.proofs.PairLemmas.{shape_before}
@@ -45,18 +44,19 @@ module _ (form : Form) (ships : List Ship) where
   marks_data tree = tree_data (mark_numbers (numbering_of ships)) tree
 
   -- the object of parts of this form that suit a version is read as the certificate
-  parts_back : (version : Version) (C : Certificate) → Suits version C.cuts C.prices (list_any is_price_mark C.tree) → All (IsFormedMark (numbering_of ships)) C.tree → AreOf form C.tree
+  parts_back : (version : Version) (C : Certificate) → Suits version C.cuts C.prices C.tree → All (IsFormedMark (numbering_of ships)) C.tree → AreOf form C.tree
       → All (AreFormedPrices (most_lockages ships)) C.prices → cuts_in (cuts_data C.cuts) ≡ Some C.cuts → plan_in (most_lockages ships) (plan_data C.plan) ≡ Some C.plan
       → certificate_in form ships version (parts_data version C.cost C.cuts C.plan C.prices (marks_data C.tree)) ≡ Ok C
   unfolding certificate_in front_in serde_json_on_literals
   parts_back version C suits marks own formed cuts plan =
-      go version suits (cuts_suit version C.cuts cuts suits.inside) (tree_back (marks_back (numbering_of ships) form) (is_third version) C.tree (formed_of (numbering_of ships) form C.tree marks own) suits.unmarked)
+      go version suits (cuts_suit version C.cuts cuts suits.inside) (tree_back (marks_back (numbering_of ships) form) version C.tree (formed_of (numbering_of ships) form C.tree marks own) suits.own)
     where
-      go : (v : Version) → Suits v C.cuts C.prices (list_any is_price_mark C.tree) → cuts_under v (cuts_data C.cuts) ≡ Some C.cuts → tree_in (mark_in form (numbering_of ships)) (is_third v) (marks_data C.tree) ≡ Some C.tree
+      go : (v : Version) → Suits v C.cuts C.prices C.tree → cuts_under v (cuts_data C.cuts) ≡ Some C.cuts → tree_in (mark_in form (numbering_of ships) v) (marks_data C.tree) ≡ Some C.tree
           → certificate_in form ships v (parts_data v C.cost C.cuts C.plan C.prices (marks_data C.tree)) ≡ Ok C
       go First suits own back = rw (own, plan, back) (ap (λ ps. Ok (record { cost = C.cost; cuts = C.cuts; plan = C.plan; prices = ps; tree = C.tree })) (sym (suits.unpriced refl)))
       go Second suits own back = rw (own, plan, back) (ap (λ ps. Ok (record { cost = C.cost; cuts = C.cuts; plan = C.plan; prices = ps; tree = C.tree })) (sym (suits.unpriced refl)))
       go Third suits own back = rw (own, plan, back, lists_back C.prices (most_lockages ships) formed) refl
+      go Fourth suits own back = rw (own, plan, back, lists_back C.prices (most_lockages ships) formed) refl
 
 pub certificate_back : (form : Form) (I : Instance) (C : Certificate) (version : Version) (cost : ℕ) (cuts : List CertCut) (plan : Plan) (prices : List (List ℕ)) (tree : List Mark)
     → (let made : Certificate = record { cost = cost; cuts = cuts; plan = plan; prices = prices; tree = tree } in made ≡ C) → version ≡ version_of form C → IsWellFormed I C → AreOf form C.tree

@@ -18,7 +18,6 @@ use Rattle.cert_text.specs.declared.heading.Form.TheVariants as form
 use Rattle.cert_text.specs.declared.heading.Version.{Version}
 use Rattle.cert_text.specs.declared.bad.BadDossier.TheVariants as fault
 use Rattle.cert_text.specs.Fields.{value_at}
-use Rattle.cert_text.specs.Versions.{is_third}
 use Rattle.cert_text.specs.Marks.{mark_in}
 use Rattle.cert_text.specs.Trees.{tree_in}
 use Rattle.cert_text.specs.Prices.{prices_under}
@@ -46,13 +45,13 @@ at_key f None x e = absurd (none-some x e)
 certificate_whole : (ships : List Ship) (version : Version) (d : Data) (C : Certificate) → certificate_in form.Whole ships version d ≡ Ok C → HasNoOpenLeaf C.tree
 unfolding certificate_in
 certificate_whole ships version d C e =
-    let read = tree_in (mark_in form.Whole (numbering_of ships)) (is_third version) in
+    let read = tree_in (mark_in form.Whole (numbering_of ships) version) in
     let front = step (front_in ships version d) _ C e in
     let tree = step (or_fault 5 (value_at (codes "tree") read d)) _ C front.2 in
     let prices = step (or_fault 6 (prices_under (most_lockages ships) version d)) _ C tree.2 in
     let own = at_key read (get (codes "tree") d) tree.0 (found 5 (value_at (codes "tree") read d) tree.0 tree.1) in
     let same = ap (λ (c : Certificate). c.tree) (one-ok (Ok (record { cost = front.0.cost; cuts = front.0.cuts; plan = front.0.plan; prices = prices.0; tree = tree.0 })) _ C refl prices.2) in
-    subst HasNoOpenLeaf same (tree_whole (numbering_of ships) (is_third version) own.0 tree.0 own.1)
+    subst HasNoOpenLeaf same (tree_whole (numbering_of ships) version own.0 tree.0 own.1)
 
 rest_whole : (ships : List Ship) (bytes : List ℕ) (C : Certificate) → rest_in form.Whole ships bytes ≡ Ok C → HasNoOpenLeaf C.tree
 unfolding rest_in

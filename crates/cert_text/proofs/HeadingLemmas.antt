@@ -12,7 +12,7 @@ use Rattle.cert_text.specs.Dossier.{heading_line, version_under}
 use Rattle.cert_text.specs.declared.heading.Form.{Form}
 use Rattle.cert_text.specs.declared.heading.Form.TheVariants as form
 use Rattle.cert_text.specs.declared.heading.Version.{Version}
-use Rattle.cert_text.specs.declared.heading.Version.TheVariants.{First, Second, Third}
+use Rattle.cert_text.specs.declared.heading.Version.TheVariants.{First, Second, Third, Fourth}
 use Rattle.cert_text.specs.declared.heading.Heading.{Heading}
 use Rattle.cert_text.specs.declared.heading.Heading.TheVariants.{Whole, Open}
 
@@ -40,6 +40,10 @@ third_words : words (codes "certificate 3") ≡ codes "certificate" ∷ codes "3
 unfolding words content
 third_words = refl
 
+fourth_words : words (codes "certificate 4") ≡ codes "certificate" ∷ codes "4" ∷ []
+unfolding words content
+fourth_words = refl
+
 first_is : heading_of (codes "certificate" ∷ []) ≡ Some (Whole First)
 unfolding heading_of
 first_is = refl
@@ -52,6 +56,10 @@ third_is : heading_of (codes "certificate" ∷ codes "3" ∷ []) ≡ Some (Whole
 unfolding heading_of
 third_is = refl
 
+fourth_is : heading_of (codes "certificate" ∷ codes "4" ∷ []) ≡ Some (Whole Fourth)
+unfolding heading_of
+fourth_is = refl
+
 lines_of_first : lines (codes "certificate") ≡ codes "certificate" ∷ []
 unfolding lines
 lines_of_first = refl
@@ -63,6 +71,10 @@ lines_of_second = refl
 lines_of_third : lines (codes "certificate 3") ≡ codes "certificate 3" ∷ []
 unfolding lines
 lines_of_third = refl
+
+lines_of_fourth : lines (codes "certificate 4") ≡ codes "certificate 4" ∷ []
+unfolding lines
+lines_of_fourth = refl
 
 -- a text that begins with a heading
 begins : (text line rest : List ℕ) (ws : List (List ℕ)) (h : Heading) → lines line ≡ line ∷ [] → words line ≡ ws → (length ws == 0) ≡ false → heading_of ws ≡ Some h → text ≡ line ++ 10 ∷ rest → headed text ≡ Some (h, rest)
@@ -82,6 +94,10 @@ open_third_words : words (codes "certificate open 3") ≡ codes "certificate" �
 unfolding words content
 open_third_words = refl
 
+open_fourth_words : words (codes "certificate open 4") ≡ codes "certificate" ∷ codes "open" ∷ codes "4" ∷ []
+unfolding words content
+open_fourth_words = refl
+
 open_is : heading_of (codes "certificate" ∷ codes "open" ∷ []) ≡ Some (Open Second)
 unfolding heading_of
 open_is = refl
@@ -90,6 +106,10 @@ open_third_is : heading_of (codes "certificate" ∷ codes "open" ∷ codes "3" �
 unfolding heading_of
 open_third_is = refl
 
+open_fourth_is : heading_of (codes "certificate" ∷ codes "open" ∷ codes "4" ∷ []) ≡ Some (Open Fourth)
+unfolding heading_of
+open_fourth_is = refl
+
 lines_of_open : lines (codes "certificate open") ≡ codes "certificate open" ∷ []
 unfolding lines
 lines_of_open = refl
@@ -97,6 +117,10 @@ lines_of_open = refl
 lines_of_open_third : lines (codes "certificate open 3") ≡ codes "certificate open 3" ∷ []
 unfolding lines
 lines_of_open_third = refl
+
+lines_of_open_fourth : lines (codes "certificate open 4") ≡ codes "certificate open 4" ∷ []
+unfolding lines
+lines_of_open_fourth = refl
 
 -- a heading that says the form and the version, before these bytes
 pub record IsHeaded (own : Form) (version : Version) (text rest : List ℕ) : Type 0 where
@@ -121,6 +145,11 @@ heading_back form.Whole Third rest later = record {
   found = begins (heading_line form.Whole Third ++ rest) (codes "certificate 3") rest (codes "certificate" ∷ codes "3" ∷ []) (Whole Third) lines_of_third third_words refl third_is refl;
   is = refl;
 }
+heading_back form.Whole Fourth rest later = record {
+  heading = Whole Fourth;
+  found = begins (heading_line form.Whole Fourth ++ rest) (codes "certificate 4") rest (codes "certificate" ∷ codes "4" ∷ []) (Whole Fourth) lines_of_fourth fourth_words refl fourth_is refl;
+  is = refl;
+}
 heading_back form.Open First rest later = absurd (later refl refl)
 heading_back form.Open Second rest later = record {
   heading = Open Second;
@@ -130,5 +159,10 @@ heading_back form.Open Second rest later = record {
 heading_back form.Open Third rest later = record {
   heading = Open Third;
   found = begins (heading_line form.Open Third ++ rest) (codes "certificate open 3") rest (codes "certificate" ∷ codes "open" ∷ codes "3" ∷ []) (Open Third) lines_of_open_third open_third_words refl open_third_is refl;
+  is = refl;
+}
+heading_back form.Open Fourth rest later = record {
+  heading = Open Fourth;
+  found = begins (heading_line form.Open Fourth ++ rest) (codes "certificate open 4") rest (codes "certificate" ∷ codes "open" ∷ codes "4" ∷ []) (Open Fourth) lines_of_open_fourth open_fourth_words refl open_fourth_is refl;
   is = refl;
 }

@@ -19,7 +19,7 @@ use Rattle.cert_text.specs.Cuts.{cut_data}
 use Rattle.cert_text.specs.Plans.{spot_data, lockage_data}
 use Rattle.cert_text.specs.declared.heading.Form.{Form}
 use Rattle.cert_text.specs.declared.heading.Version.{Version}
-use Rattle.cert_text.specs.declared.heading.Version.TheVariants.{First, Second, Third}
+use Rattle.cert_text.specs.declared.heading.Version.TheVariants.{First, Second, Third, Fourth}
 use Rattle.cert_text.specs.Versions.{version_of}
 use Rattle.cert_text.specs.Marks.{mark_numbers}
 use Rattle.cert_text.specs.Trees.{tree_data}
@@ -66,6 +66,8 @@ parts_no_float numbering First cost cuts plan prices tree = rw (list_no_float cu
 parts_no_float numbering Second cost cuts plan prices tree = rw (list_no_float cut_data cut_no_float cuts, list_no_float lockage_data lockage_no_float plan.lockages, numbers_no_float (flat_map (mark_numbers numbering) tree)) refl
 parts_no_float numbering Third cost cuts plan prices tree =
     rw (list_no_float cut_data cut_no_float cuts, list_no_float lockage_data lockage_no_float plan.lockages, list_no_float numbers_data numbers_no_float prices, numbers_no_float (flat_map (mark_numbers numbering) tree)) refl
+parts_no_float numbering Fourth cost cuts plan prices tree =
+    rw (list_no_float cut_data cut_no_float cuts, list_no_float lockage_data lockage_no_float plan.lockages, list_no_float numbers_data numbers_no_float prices, numbers_no_float (flat_map (mark_numbers numbering) tree)) refl
 
 parts_shallow : (numbering : Numbering) (version : Version) (cost : ℕ) (cuts : List CertCut) (plan : Plan) (prices : List (List ℕ)) (tree : List Mark) → depth (parts_data version cost cuts plan prices (tree_data (mark_numbers numbering) tree)) ≤ max_depth
 parts_shallow numbering version cost cuts plan prices tree = go version
@@ -83,6 +85,11 @@ parts_shallow numbering version cost cuts plan prices tree = go version
         let plan_depth = list_depth lockage_data 3 lockage_depth plan.lockages in
         omega (arith, cuts_depth, plan_depth, flat)
     go Third =
+        let cuts_depth = list_depth cut_data 2 cut_depth cuts in
+        let plan_depth = list_depth lockage_data 3 lockage_depth plan.lockages in
+        let prices_depth = list_depth numbers_data 1 numbers_depth prices in
+        omega (arith, cuts_depth, plan_depth, prices_depth, flat)
+    go Fourth =
         let cuts_depth = list_depth cut_data 2 cut_depth cuts in
         let plan_depth = list_depth lockage_data 3 lockage_depth plan.lockages in
         let prices_depth = list_depth numbers_data 1 numbers_depth prices in

@@ -1,26 +1,64 @@
 -- What the version of a certificate says of it.
 use Rattle.std.proofs.Common.{◌≡◌, ◌∙◌, ℕ, Bool, true, false, cond, List, [], ◌∷◌, refl, sym, ap, length, arith}
 use Rattle.std.specs.Prelude.{◌||◌, not, ◌==◌}
-use Rattle.std.specs.List.{list_any}
 use Rattle.std.proofs.lemmas.Bool.Decides.{nat_tests}
+use Rattle.closing_rules.specs.declared.grounds.Ground.TheVariants.{Bound, Throughput, Probe, Cut, Price, Swept}
 use Rattle.closing_rules.specs.ProvedCuts.{CertCut}
+use Rattle.certificate_rules.specs.declared.certificate.Mark.{Mark}
+use Rattle.certificate_rules.specs.declared.certificate.Mark.TheVariants.{Split, Leaf, Open}
 use Rattle.certificate_rules.specs.Certificates.{Certificate}
 use Rattle.cert_text.specs.declared.heading.Form.{Form}
 use Rattle.cert_text.specs.declared.heading.Form.TheVariants as form
 use Rattle.cert_text.specs.declared.heading.Version.{Version}
-use Rattle.cert_text.specs.declared.heading.Version.TheVariants.{First, Second, Third}
-use Rattle.cert_text.specs.Versions.{is_third, has_outside, needs_third, needs_second, version_of}
-use Rattle.cert_text.specs.Marks.{is_price_mark}
+use Rattle.cert_text.specs.declared.heading.Version.TheVariants.{First, Second, Third, Fourth}
+use Rattle.cert_text.specs.Versions.{has_prices, has_outside, has_later, needs_third, needs_second, version_of}
+use Rattle.cert_text.specs.Marks.{is_later}
 
--- A version has all parts: no cut is refuted as a later version does, and before the third there are no prices and no marks for them.
-pub record Suits (version : Version) (cuts : List CertCut) (prices : List (List ℕ)) (marked : Bool) : Type 0 where
+-- A version has all parts: no cut is refuted as a later version does, no mark is one of a later version, and before the third there are no prices.
+pub record Suits (version : Version) (cuts : List CertCut) (prices : List (List ℕ)) (tree : List Mark) : Type 0 where
   pub inside : has_outside version cuts ≡ false
-  pub unpriced : is_third version ≡ false → prices ≡ []
-  pub unmarked : is_third version ≡ false → marked ≡ false
+  pub unpriced : has_prices version ≡ false → prices ≡ []
+  pub own : has_later version tree ≡ false
 
-none_outside : (cuts : List CertCut) → has_outside Third cuts ≡ false
-none_outside [] = refl
-none_outside (c ∷ cuts) = none_outside cuts
+-- the third version and the fourth have all refutations, and the fourth all marks
+none_outside : (version : Version) → has_prices version ≡ true → (cuts : List CertCut) → has_outside version cuts ≡ false
+none_outside First priced cuts = absurd cc
+none_outside Second priced cuts = absurd cc
+none_outside Third priced [] = refl
+none_outside Third priced (c ∷ cuts) = none_outside Third priced cuts
+none_outside Fourth priced [] = refl
+none_outside Fourth priced (c ∷ cuts) = none_outside Fourth priced cuts
+
+never_later : (m : Mark) → is_later Fourth m ≡ false
+unfolding is_later
+never_later Split = refl
+never_later (Leaf Bound) = refl
+never_later (Leaf Throughput) = refl
+never_later (Leaf (Probe s)) = refl
+never_later (Leaf (Cut number)) = refl
+never_later (Leaf (Price number)) = refl
+never_later (Leaf (Swept number)) = refl
+never_later Open = refl
+
+none_later : (tree : List Mark) → has_later Fourth tree ≡ false
+none_later [] = refl
+none_later (m ∷ tree) = rw (never_later m) (none_later tree)
+
+-- the first version has the marks of the second
+same_later : (m : Mark) → is_later First m ≡ is_later Second m
+unfolding is_later
+same_later Split = refl
+same_later (Leaf Bound) = refl
+same_later (Leaf Throughput) = refl
+same_later (Leaf (Probe s)) = refl
+same_later (Leaf (Cut number)) = refl
+same_later (Leaf (Price number)) = refl
+same_later (Leaf (Swept number)) = refl
+same_later Open = refl
+
+first_later : (tree : List Mark) → has_later First tree ≡ has_later Second tree
+first_later [] = refl
+first_later (m ∷ tree) = rw (same_later m, first_later tree) refl
 
 no_prices : (prices : List (List ℕ)) → not (length prices == 0) ≡ false → prices ≡ []
 no_prices [] none = refl
@@ -38,39 +76,44 @@ unneeded cuts prices marked none = go (not (length prices == 0)) marked refl ref
     go false true is same none = absurd cc
     go false false is same none = (none, no_prices prices is, same)
 
-suits_third : (cuts : List CertCut) (prices : List (List ℕ)) (marked : Bool) → Suits Third cuts prices marked
-suits_third cuts prices marked = record { inside = none_outside cuts; unpriced = λ e. absurd cc; unmarked = λ e. absurd cc }
+suits_fourth : (cuts : List CertCut) (prices : List (List ℕ)) (tree : List Mark) → Suits Fourth cuts prices tree
+suits_fourth cuts prices tree = record { inside = none_outside Fourth refl cuts; unpriced = λ e. absurd cc; own = none_later tree }
 
-suits_second : (cuts : List CertCut) (prices : List (List ℕ)) (marked : Bool) → needs_third cuts prices marked ≡ false → Suits Second cuts prices marked
-suits_second cuts prices marked none =
-    let facts = unneeded cuts prices marked none in
-    record { inside = facts.0; unpriced = λ e. facts.1; unmarked = λ e. facts.2 }
+suits_third : (cuts : List CertCut) (prices : List (List ℕ)) (tree : List Mark) → has_later Third tree ≡ false → Suits Third cuts prices tree
+suits_third cuts prices tree own = record { inside = none_outside Third refl cuts; unpriced = λ e. absurd cc; own = own }
 
-suits_first : (cuts : List CertCut) (prices : List (List ℕ)) (marked : Bool) → needs_third cuts prices marked ≡ false → has_outside First cuts ≡ false → Suits First cuts prices marked
-suits_first cuts prices marked none quick =
-    let facts = unneeded cuts prices marked none in
-    record { inside = quick; unpriced = λ e. facts.1; unmarked = λ e. facts.2 }
+suits_second : (cuts : List CertCut) (prices : List (List ℕ)) (tree : List Mark) → needs_third cuts prices (has_later Second tree) ≡ false → Suits Second cuts prices tree
+suits_second cuts prices tree none =
+    let facts = unneeded cuts prices (has_later Second tree) none in
+    record { inside = facts.0; unpriced = λ e. facts.1; own = facts.2 }
+
+suits_first : (cuts : List CertCut) (prices : List (List ℕ)) (tree : List Mark) → needs_third cuts prices (has_later Second tree) ≡ false → has_outside First cuts ≡ false → Suits First cuts prices tree
+suits_first cuts prices tree none quick =
+    let facts = unneeded cuts prices (has_later Second tree) none in
+    record { inside = quick; unpriced = λ e. facts.1; own = first_later tree ∙ facts.2 }
 
 -- a certificate that isn't of the second version by its form or its cuts has no later refutation
 not_second : (own : Form) (cuts : List CertCut) → needs_second own cuts ≡ false → has_outside First cuts ≡ false
 not_second form.Whole cuts none = none
 not_second form.Open cuts none = absurd cc
 
-pub suited : (own : Form) (C : Certificate) → Suits (version_of own C) C.cuts C.prices (list_any is_price_mark C.tree)
+pub suited : (own : Form) (C : Certificate) → Suits (version_of own C) C.cuts C.prices C.tree
 unfolding version_of
-suited own C = go (needs_third C.cuts C.prices (list_any is_price_mark C.tree)) (needs_second own C.cuts) refl refl
+suited own C = go (has_later Third C.tree) (needs_third C.cuts C.prices (has_later Second C.tree)) (needs_second own C.cuts) refl refl refl
   where
-    go : (third second : Bool) → needs_third C.cuts C.prices (list_any is_price_mark C.tree) ≡ third → needs_second own C.cuts ≡ second
-        → Suits (cond third Third (cond second Second First)) C.cuts C.prices (list_any is_price_mark C.tree)
-    go true second is same = suits_third C.cuts C.prices (list_any is_price_mark C.tree)
-    go false true is same = suits_second C.cuts C.prices (list_any is_price_mark C.tree) is
-    go false false is same = suits_first C.cuts C.prices (list_any is_price_mark C.tree) is (not_second own C.cuts same)
+    go : (fourth third second : Bool) → has_later Third C.tree ≡ fourth → needs_third C.cuts C.prices (has_later Second C.tree) ≡ third → needs_second own C.cuts ≡ second
+        → Suits (cond fourth Fourth (cond third Third (cond second Second First))) C.cuts C.prices C.tree
+    go true third second swept is same = suits_fourth C.cuts C.prices C.tree
+    go false true second swept is same = suits_third C.cuts C.prices C.tree swept
+    go false false true swept is same = suits_second C.cuts C.prices C.tree is
+    go false false false swept is same = suits_first C.cuts C.prices C.tree is (not_second own C.cuts same)
 
 -- an open certificate is never of the first version
 pub open_later : (C : Certificate) → version_of form.Open C ≡ First → ⊥
 unfolding version_of
-open_later C = go (needs_third C.cuts C.prices (list_any is_price_mark C.tree))
+open_later C = go (has_later Third C.tree) (needs_third C.cuts C.prices (has_later Second C.tree))
   where
-    go : (third : Bool) → cond third Third Second ≡ First → ⊥
-    go true is = cc
-    go false is = cc
+    go : (fourth third : Bool) → cond fourth Fourth (cond third Third Second) ≡ First → ⊥
+    go true third is = cc
+    go false true is = cc
+    go false false is = cc

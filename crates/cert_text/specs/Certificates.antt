@@ -1,5 +1,5 @@
 -- A certificate as a JSON value, and the certificate that a value is, or the first part at fault.
-use Rattle.std.specs.Prelude.{ℕ, ◌≡◌, ◌&&◌, Bool, List, [], ◌∷◌, Result, Ok, codes}
+use Rattle.std.specs.Prelude.{ℕ, ◌≡◌, ◌&&◌, Bool, List, [], ◌∷◌, Result, Ok, codes, if◌then◌else◌}
 use Rattle.serde_json.specs.Data.{Data}
 use Rattle.lock_model.specs.declared.ship.Ship.{Ship}
 use Rattle.lock_model.specs.declared.plan.Plan.{Plan}
@@ -11,8 +11,7 @@ use Rattle.line_text.specs.Steps.{◌>>=◌, ◌>>◌}
 use Rattle.cert_text.specs.declared.certificate.Front.{Front}
 use Rattle.cert_text.specs.declared.heading.Form.{Form}
 use Rattle.cert_text.specs.declared.heading.Version.{Version}
-use Rattle.cert_text.specs.declared.heading.Version.TheVariants.{First, Second, Third}
-use Rattle.cert_text.specs.Versions.{is_third, version_of}
+use Rattle.cert_text.specs.Versions.{has_prices, version_of}
 use Rattle.cert_text.specs.Steps.{when, or_fault}
 use Rattle.cert_text.specs.Fields.{object_data, value_at, has_members, has_key}
 use Rattle.cert_text.specs.Cost.{cost_data, cost_in}
@@ -22,11 +21,10 @@ use Rattle.cert_text.specs.Prices.{price_lists_data, prices_under}
 use Rattle.cert_text.specs.Marks.{mark_numbers, mark_in}
 use Rattle.cert_text.specs.Trees.{tree_data, tree_in}
 
--- the keys behind the plan: only the third version has prices
+-- the keys behind the plan, with prices in a version that has them
 abbrev pub end_members : Version → List (List ℕ) → Data → List (List ℕ × Data)
-end_members First prices tree = (codes "tree", tree) ∷ []
-end_members Second prices tree = (codes "tree", tree) ∷ []
-end_members Third prices tree = (codes "prices", price_lists_data prices) ∷ (codes "tree", tree) ∷ []
+end_members version prices tree =
+    if has_prices version then (codes "prices", price_lists_data prices) ∷ (codes "tree", tree) ∷ [] else (codes "tree", tree) ∷ []
 
 -- the keys before it
 abbrev pub claim_members : ℕ → List CertCut → List (List ℕ × Data) → List (List ℕ × Data)
@@ -45,14 +43,13 @@ parts_data version cost cuts plan prices tree =
 abbrev pub certificate_data : Form → List Ship → Certificate → Data
 certificate_data form ships C = parts_data (version_of form C) C.cost C.cuts C.plan C.prices (tree_data (mark_numbers (numbering_of ships)) C.tree)
 
--- an object of the four keys, or of the five of the third version
+-- an object of the four keys, or of the five of a version that has prices
 abbrev pub has_keys : Data → Bool
 has_keys d = has_key d (codes "cost") && has_key d (codes "cuts") && has_key d (codes "plan") && has_key d (codes "tree")
 
 abbrev pub is_frame : Version → Data → Bool
-is_frame First d = has_members 4 d && has_keys d
-is_frame Second d = has_members 4 d && has_keys d
-is_frame Third d = has_members 5 d && (has_keys d && has_key d (codes "prices"))
+is_frame version d =
+    if has_prices version then has_members 5 d && (has_keys d && has_key d (codes "prices")) else has_members 4 d && has_keys d
 
 -- The parts before the tree, where the instance has these ships, or the number of the first one at fault: 1 the keys, 2 the cost, 3 the
 -- cuts, 4 the plan.
@@ -69,7 +66,7 @@ front_in ships version d = do
 unfoldable pub certificate_in : Form → List Ship → Version → Data → Result Certificate ℕ
 certificate_in form ships version d = do
   front ← front_in ships version d
-  tree ← or_fault 5 (value_at (codes "tree") (tree_in (mark_in form (numbering_of ships)) (is_third version)) d)
+  tree ← or_fault 5 (value_at (codes "tree") (tree_in (mark_in form (numbering_of ships) version)) d)
   prices ← or_fault 6 (prices_under (most_lockages ships) version d)
   Ok (record { cost = front.cost; cuts = front.cuts; plan = front.plan; prices = prices; tree = tree })
 

@@ -16,7 +16,7 @@ use Rattle.cert_text.specs.declared.heading.Form.TheVariants as form
 use Rattle.cert_text.specs.declared.heading.Heading.{Heading}
 use Rattle.cert_text.specs.declared.heading.Heading.TheVariants.{Whole, Open}
 use Rattle.cert_text.specs.declared.heading.Version.{Version}
-use Rattle.cert_text.specs.declared.heading.Version.TheVariants.{First, Second, Third}
+use Rattle.cert_text.specs.declared.heading.Version.TheVariants.{First, Second, Third, Fourth}
 use Rattle.cert_text.specs.declared.bad.BadDossier.{BadDossier}
 use Rattle.cert_text.specs.declared.bad.BadDossier.TheVariants as fault
 use Rattle.cert_text.specs.declared.bad.DossierError.{DossierError}
@@ -31,9 +31,11 @@ abbrev pub heading_line : Form → Version → List ℕ
 heading_line form.Whole First = codes "certificate\n"
 heading_line form.Whole Second = codes "certificate 2\n"
 heading_line form.Whole Third = codes "certificate 3\n"
+heading_line form.Whole Fourth = codes "certificate 4\n"
 heading_line form.Open First = codes "certificate open\n"
 heading_line form.Open Second = codes "certificate open\n"
 heading_line form.Open Third = codes "certificate open 3\n"
+heading_line form.Open Fourth = codes "certificate open 4\n"
 
 -- a JSON value as text without white space, and a line feed
 unfoldable pub json_line : Data → List ℕ

@@ -1,10 +1,10 @@
 -- The line between an instance and its certificate.
-use Rattle.std.specs.Prelude.{ℕ, ◌==◌, ◌&&◌, List, length, Option, None, Some, Result, Ok, Err, option_map, codes, if◌then◌else◌}
+use Rattle.std.specs.Prelude.{ℕ, ◌==◌, List, length, Option, None, Some, Result, Ok, Err, option_map, codes, if◌then◌else◌}
 use Rattle.std.specs.Str.{bytes_eq}
 use Rattle.std.specs.List.{join_with_byte}
 use Rattle.line_text.specs.Filled.{Filled, first_line}
 use Rattle.line_text.specs.Lines.{lines, words, word_at}
-use Rattle.cert_text.specs.declared.heading.Version.TheVariants.{First, Second, Third}
+use Rattle.cert_text.specs.declared.heading.Version.TheVariants.{First, Second, Third, Fourth}
 use Rattle.cert_text.specs.declared.heading.Heading.{Heading}
 use Rattle.cert_text.specs.declared.heading.Heading.TheVariants.{Whole, Open}
 
@@ -12,13 +12,18 @@ use Rattle.cert_text.specs.declared.heading.Heading.TheVariants.{Whole, Open}
 abbrev pub second_word : List ℕ → Option Heading
 second_word word =
     if bytes_eq word (codes "2") then Some (Whole Second)
-    else (if bytes_eq word (codes "3") then Some (Whole Third) else (if bytes_eq word (codes "open") then Some (Open Second) else None))
+    else (if bytes_eq word (codes "3") then Some (Whole Third)
+    else (if bytes_eq word (codes "4") then Some (Whole Fourth) else (if bytes_eq word (codes "open") then Some (Open Second) else None)))
+
+-- what a third word says behind `open`
+abbrev pub open_word : List ℕ → Option Heading
+open_word word = if bytes_eq word (codes "3") then Some (Open Third) else (if bytes_eq word (codes "4") then Some (Open Fourth) else None)
 
 -- what a second and a third word say
 abbrev pub third_word : List ℕ → List ℕ → Option Heading
-third_word second third = if bytes_eq second (codes "open") && bytes_eq third (codes "3") then Some (Open Third) else None
+third_word second third = if bytes_eq second (codes "open") then open_word third else None
 
--- `certificate`, `certificate 2`, `certificate 3`, `certificate open` or `certificate open 3`
+-- `certificate`, or with `2`, `3`, `4`, `open`, `open 3` or `open 4` behind it
 unfoldable pub heading_of : List (List ℕ) → Option Heading
 heading_of words =
     if bytes_eq (word_at words 0) (codes "certificate")

@@ -1,8 +1,8 @@
 -- Marks as numbers.
-use Rattle.std.specs.Prelude.{ℕ, ◌+◌, ◌-◌, ◌==◌, ◌&&◌, Bool, true, false, List, [], ◌∷◌, Option, None, Some, option_map, if◌then◌else◌, ⊤}
+use Rattle.std.specs.Prelude.{ℕ, ◌+◌, ◌-◌, ◌==◌, ◌&&◌, not, Bool, true, false, List, [], ◌∷◌, Option, None, Some, option_map, if◌then◌else◌, ⊤}
 use Rattle.lock_model.specs.Limits.{is_between}
 use Rattle.closing_rules.specs.declared.grounds.Ground.{Ground}
-use Rattle.closing_rules.specs.declared.grounds.Ground.TheVariants.{Bound, Throughput, Probe, Cut, Price}
+use Rattle.closing_rules.specs.declared.grounds.Ground.TheVariants.{Bound, Throughput, Probe, Cut, Price, Swept}
 use Rattle.certificate_rules.specs.declared.certificate.Mark.{Mark}
 use Rattle.certificate_rules.specs.declared.certificate.Mark.TheVariants.{Split, Leaf, Open}
 use Rattle.certificate_rules.specs.declared.numbering.Numbering.{Numbering}
@@ -12,6 +12,12 @@ use Rattle.certificate_rules.specs.WellFormed.{probed_ships}
 use Rattle.serde_json.specs.Data.{Data}
 use Rattle.cert_text.specs.declared.heading.Form.{Form}
 use Rattle.cert_text.specs.declared.heading.Form.TheVariants as form
+use Rattle.cert_text.specs.declared.heading.Version.{Version}
+use Rattle.cert_text.specs.declared.heading.Version.TheVariants.{First, Second, Third, Fourth}
+use Rattle.cert_text.specs.declared.marks.PriceMark.{PriceMark}
+use Rattle.cert_text.specs.declared.marks.PriceMark.TheVariants as pair
+use Rattle.cert_text.specs.declared.marks.Told.{Told}
+use Rattle.cert_text.specs.declared.marks.Told.TheVariants.{Ended, Begun}
 use Rattle.cert_text.specs.Steps.{◌>>=◌}
 use Rattle.cert_text.specs.Fields.{number_in, number_below}
 
@@ -20,13 +26,26 @@ abbrev pub first_cut_mark : Numbering → ℕ
 first_cut_mark Few = 100
 first_cut_mark Many = 1000
 
--- a mark that names prices is two numbers
+-- a mark that names prices is two numbers, of which this is the first
+abbrev pub first_number : PriceMark → ℕ
+first_number pair.Reached = 4
+first_number pair.Swept = 5
+
+-- and the version has it
+abbrev pub has_mark : Version → PriceMark → Bool
+has_mark First kind = false
+has_mark Second kind = false
+has_mark Third pair.Reached = true
+has_mark Third pair.Swept = false
+has_mark Fourth kind = true
+
 abbrev pub ground_numbers : Numbering → Ground → List ℕ
 ground_numbers numbering Bound = 1 ∷ []
 ground_numbers numbering Throughput = 2 ∷ []
 ground_numbers numbering (Probe s) = (10 + s) ∷ []
 ground_numbers numbering (Cut c) = (first_cut_mark numbering + c) ∷ []
-ground_numbers numbering (Price v) = 4 ∷ v ∷ []
+ground_numbers numbering (Price v) = first_number pair.Reached ∷ v ∷ []
+ground_numbers numbering (Swept v) = first_number pair.Swept ∷ v ∷ []
 
 unfoldable pub mark_numbers : Numbering → Mark → List ℕ
 mark_numbers numbering Split = 0 ∷ []
@@ -61,28 +80,44 @@ mark_of own numbering n =
     else (if n == 2 then Some (Leaf Throughput)
     else (if n == 3 then open_leaf own else naming_mark numbering n)))
 
+-- the mark of a version that this number is the first of two of
+abbrev pub begun_by : Version → ℕ → Option PriceMark
+begun_by version n =
+    if n == first_number pair.Reached && has_mark version pair.Reached then Some pair.Reached
+    else (if n == first_number pair.Swept && has_mark version pair.Swept then Some pair.Swept else None)
+
+abbrev pub naming_prices : PriceMark → ℕ → Mark
+naming_prices pair.Reached v = Leaf (Price v)
+naming_prices pair.Swept v = Leaf (Swept v)
+
 -- the mark of the second number of two
-abbrev pub price_mark_in : Data → Option Mark
-price_mark_in d = do
+abbrev pub second_in : PriceMark → Data → Option Mark
+second_in kind d = do
   number ← number_below 9223372036854775808 d
-  Some (Leaf (Price number))
+  Some (naming_prices kind number)
 
--- What a number of a tree says: the mark that it ends, or no mark where it is the 4 that begins one of two numbers, which only the
--- third version has. `begun` says that such a 4 stands before it.
-unfoldable pub mark_in : Form → Numbering → Bool → Bool → Data → Option (Option Mark)
-mark_in own numbering third true d = option_map Some (price_mark_in d)
-mark_in own numbering third false d = do
+-- a number that begins a mark of two ends none
+abbrev pub told_first : Option PriceMark → Option Mark → Option Told
+told_first (Some kind) mark = Some (Begun kind)
+told_first None mark = option_map Ended mark
+
+-- What a number of a tree says: the mark that it ends, or the one of two numbers that it begins. `begun` says which stands before it.
+unfoldable pub mark_in : Form → Numbering → Version → Option PriceMark → Data → Option Told
+mark_in own numbering version (Some kind) d = option_map Ended (second_in kind d)
+mark_in own numbering version None d = do
   n ← number_in d
-  if third && n == 4 then Some None else option_map Some (mark_of own numbering n)
+  told_first (begun_by version n) (mark_of own numbering n)
 
-abbrev pub is_price : Ground → Bool
-is_price Bound = false
-is_price Throughput = false
-is_price (Probe s) = false
-is_price (Cut number) = false
-is_price (Price number) = true
+-- a mark that the version doesn't have, but a later one
+abbrev pub is_later_ground : Version → Ground → Bool
+is_later_ground version Bound = false
+is_later_ground version Throughput = false
+is_later_ground version (Probe s) = false
+is_later_ground version (Cut number) = false
+is_later_ground version (Price number) = not (has_mark version pair.Reached)
+is_later_ground version (Swept number) = not (has_mark version pair.Swept)
 
-unfoldable pub is_price_mark : Mark → Bool
-is_price_mark Split = false
-is_price_mark (Leaf why) = is_price why
-is_price_mark Open = false
+unfoldable pub is_later : Version → Mark → Bool
+is_later version Split = false
+is_later version (Leaf why) = is_later_ground version why
+is_later version Open = false

@@ -1,11 +1,11 @@
 -- Lists of prices as JSON values.
-use Rattle.std.specs.Prelude.{ℕ, ◌≡◌, List, [], length, All, Option, Some, codes}
+use Rattle.std.specs.Prelude.{ℕ, ◌≡◌, List, [], length, All, Option, Some, codes, if◌then◌else◌}
 use Rattle.lock_model.specs.Limits.{is_between}
 use Rattle.serde_json.specs.Data.{Data, Items}
 use Rattle.serde_json.specs.Find.{as_array}
 use Rattle.certificate_rules.specs.WellFormed.{AreFormedPrices}
 use Rattle.cert_text.specs.declared.heading.Version.{Version}
-use Rattle.cert_text.specs.declared.heading.Version.TheVariants.{First, Second, Third}
+use Rattle.cert_text.specs.Versions.{has_prices}
 use Rattle.cert_text.specs.Steps.{◌>>=◌, ◌>>◌, when}
 use Rattle.cert_text.specs.Fields.{number_below, list_data, numbers_data, all_in, list_in, value_at}
 
@@ -31,11 +31,9 @@ prices_in most d = do
 abbrev pub price_lists_in : ℕ → Data → Option (List (List ℕ))
 price_lists_in most = list_in (prices_in most)
 
--- the prices at their key, which only the third version has
+-- the prices at their key, in a version that has them
 abbrev pub prices_under : ℕ → Version → Data → Option (List (List ℕ))
-prices_under most First d = Some []
-prices_under most Second d = Some []
-prices_under most Third d = value_at (codes "prices") (price_lists_in most) d
+prices_under most version d = if has_prices version then value_at (codes "prices") (price_lists_in most) d else Some []
 
 -- where lists may be so long, what is written of these is read as them
 abbrev pub AreListsBack : List (List ℕ) → Type 0

@@ -8,13 +8,15 @@ use Rattle.certificate_rules.specs.Certificates.{Certificate}
 use Rattle.cert_text.specs.declared.heading.Form.{Form}
 use Rattle.cert_text.specs.declared.heading.Form.TheVariants as form
 use Rattle.cert_text.specs.declared.heading.Version.{Version}
-use Rattle.cert_text.specs.declared.heading.Version.TheVariants.{First, Second, Third}
-use Rattle.cert_text.specs.Marks.{is_price_mark}
+use Rattle.cert_text.specs.declared.heading.Version.TheVariants.{First, Second, Third, Fourth}
+use Rattle.certificate_rules.specs.declared.certificate.Mark.{Mark}
+use Rattle.cert_text.specs.Marks.{is_later}
 
-abbrev pub is_third : Version → Bool
-is_third First = false
-is_third Second = false
-is_third Third = true
+abbrev pub has_prices : Version → Bool
+has_prices First = false
+has_prices Second = false
+has_prices Third = true
+has_prices Fourth = true
 
 -- its `why` begins with 5
 abbrev pub is_by_clash : Refutation → Bool
@@ -37,9 +39,13 @@ abbrev pub is_outside : Version → Refutation → Bool
 is_outside First r = is_by_clash r || is_by_berths r
 is_outside Second r = is_by_berths r
 is_outside Third r = false
+is_outside Fourth r = false
 
 abbrev pub has_outside : Version → List CertCut → Bool
 has_outside version = list_any (λ c. is_outside version c.refutation)
+
+abbrev pub has_later : Version → List Mark → Bool
+has_later version = list_any (is_later version)
 
 -- a part that no version before the third has: prices, a mark for them, or a berth tree
 abbrev pub needs_third : List CertCut → List (List ℕ) → Bool → Bool
@@ -52,5 +58,6 @@ needs_second form.Open cuts = true
 
 unfoldable pub version_of : Form → Certificate → Version
 version_of own C =
-    if needs_third C.cuts C.prices (list_any is_price_mark C.tree) then Third
-    else (if needs_second own C.cuts then Second else First)
+    if has_later Third C.tree then Fourth
+    else (if needs_third C.cuts C.prices (has_later Second C.tree) then Third
+    else (if needs_second own C.cuts then Second else First))

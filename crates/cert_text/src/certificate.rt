@@ -23,7 +23,7 @@ use crate::plan::plan_of;
 use crate::prices::prices_at;
 use crate::tree::{put_tree, tree_at};
 use crate::value::has_members;
-use crate::version::{has_outside, is_third};
+use crate::version::{has_outside, has_prices};
 use certificate_parts::{CertCuts, Certificate};
 use lock_model::{Instance, Plan, SHIPS};
 use no_memory::NoMemory;
@@ -65,16 +65,15 @@ fn has_keys(value: &Value) -> bool
         && value.get("tree").is_some()
 }
 
-/// Whether a value is an object of the four keys of a certificate, or of the five of the third version.
+/// Whether a value is an object of the four keys of a certificate, or of the five of one that has prices.
 /// Takes no memory.
 fn is_frame(version: Version, value: &Value) -> bool
     ensures { result ≡ is_frame version (view value.now) }
 {
-    match version {
-        Version::First | Version::Second => has_members(value, 4) && has_keys(value),
-        Version::Third => {
-            has_members(value, 5) && (has_keys(value) && value.get("prices").is_some())
-        }
+    if has_prices(version) {
+        has_members(value, 5) && (has_keys(value) && value.get("prices").is_some())
+    } else {
+        has_members(value, 4) && has_keys(value)
     }
 }
 
@@ -169,13 +168,7 @@ pub fn certificate_in(
     ensures shape { IfErr result (IsFault (fault_under Shape (certificate_in form instance.now.ships version (view value.now)))) }
 {
     let Front { cost, cuts, plan } = front_in(alloc, instance, version, value)?;
-    let tree = tree_at(
-        alloc,
-        form,
-        numbering_of(instance),
-        is_third(version),
-        value,
-    )?;
+    let tree = tree_at(alloc, form, numbering_of(instance), version, value)?;
     let prices = prices_at(alloc, instance.most_lockages(), version, value)?;
     Ok(Certificate {
         cost,

@@ -1,7 +1,7 @@
 //! The line between an instance and its certificate.
 ghost use Rattle.std.specs.Prelude.{◌≡◌, option_map};
 ghost use Rattle.line_text.specs.Lines.{words};
-ghost use Rattle.cert_text.specs.Heading.{second_word, third_word, heading_of, headed};
+ghost use Rattle.cert_text.specs.Heading.{second_word, open_word, third_word, heading_of, headed};
 
 use line_text::{Lines, word_at, words_of};
 
@@ -14,6 +14,8 @@ pub enum Version {
     Second,
     /// Cuts that are refuted by a berth tree besides, prices, and marks for them.
     Third,
+    /// A mark of a sweep besides.
+    Fourth,
 }
 
 /// What a certificate does with the nodes of the tree.
@@ -28,9 +30,9 @@ pub enum Form {
 /// What the line between an instance and its certificate says: the version, and the form.
 #[derive(Clone, Copy)]
 pub enum Heading {
-    /// `certificate`, `certificate 2` or `certificate 3`.
+    /// `certificate`, `certificate 2`, `certificate 3` or `certificate 4`.
     Whole(Version),
-    /// `certificate open`, which is of the second version, or `certificate open 3`.
+    /// `certificate open`, which is of the second version, `certificate open 3` or `certificate open 4`.
     Open(Version),
 }
 
@@ -41,7 +43,19 @@ fn second_word(word: &[u8]) -> Option<Heading>
     match word {
         b"2" => Some(Heading::Whole(Version::Second)),
         b"3" => Some(Heading::Whole(Version::Third)),
+        b"4" => Some(Heading::Whole(Version::Fourth)),
         b"open" => Some(Heading::Open(Version::Second)),
+        _ => None,
+    }
+}
+
+/// What a third word says behind `open`.
+fn open_word(word: &[u8]) -> Option<Heading>
+    ensures { result ≡ open_word word.now }
+{
+    match word {
+        b"3" => Some(Heading::Open(Version::Third)),
+        b"4" => Some(Heading::Open(Version::Fourth)),
         _ => None,
     }
 }
@@ -50,8 +64,8 @@ fn second_word(word: &[u8]) -> Option<Heading>
 fn third_word(second: &[u8], third: &[u8]) -> Option<Heading>
     ensures { result ≡ third_word second.now third.now }
 {
-    if second == b"open".as_slice() && third == b"3".as_slice() {
-        Some(Heading::Open(Version::Third))
+    if second == b"open".as_slice() {
+        open_word(third)
     } else {
         None
     }

@@ -1,17 +1,36 @@
 //! Marks as numbers.
-ghost use Rattle.std.specs.Prelude.{◌≡◌, ◌≤◌, ◌++◌, false, map, OnOk};
+ghost use Rattle.std.specs.Prelude.{◌≡◌, ◌≤◌, ◌++◌, ◌∷◌, [], None, map, OnOk};
 ghost use Rattle.certificate_rules.specs.WellFormed.{IsFormedGround, IsFormedMark, numbering_of, probed_ships};
 ghost use Rattle.serde_json.specs.View.{view};
 ghost use Rattle.cert_text.specs.Fields.{number_data};
-ghost use Rattle.cert_text.specs.Marks.{first_cut_mark, ground_numbers, mark_numbers, open_leaf, naming_mark, mark_of, price_mark_in, mark_in, is_price_mark};
+ghost use Rattle.cert_text.specs.Marks.{first_cut_mark, first_number, has_mark, ground_numbers, mark_numbers, open_leaf, naming_mark, mark_of, begun_by};
+ghost use Rattle.cert_text.specs.Marks.{naming_prices, second_in, mark_in, is_later};
 
-use crate::heading::Form;
+use crate::heading::{Form, Version};
 use crate::value::{number_below, push_number};
 use certificate_parts::{Ground, Mark};
 use certificate_rules::Numbering;
 use lock_model::{FEW_SHIPS, Instance, SHIPS};
 use serde_json::Value;
 use std::alloc::AllocError;
+
+/// A mark that names prices. It is two numbers, of which the second is that of the prices.
+#[derive(Clone, Copy)]
+pub enum PriceMark {
+    /// The node reaches the cost by the prices; from the third version on.
+    Reached,
+    /// The cost is swept, which goes well by the prices; from the fourth version on.
+    Swept,
+}
+
+/// What a number of a tree says.
+#[derive(Clone, Copy)]
+pub enum Told {
+    /// It is the last of this mark.
+    Ended(Mark),
+    /// It is the first of such a mark.
+    Begun(PriceMark),
+}
 
 /// How the marks of an instance's trees are numbered.
 #[tactic(auto, unfolding(certificate_rules::specs::WellFormed::numbering_of))]
@@ -47,6 +66,36 @@ fn first_cut_mark(numbering: Numbering) -> u64
     }
 }
 
+/// The first of the two numbers of a mark that names prices.
+fn first_number(kind: PriceMark) -> u64
+    ensures { result ≡ first_number kind }
+{
+    match kind {
+        PriceMark::Reached => 4,
+        PriceMark::Swept => 5,
+    }
+}
+
+/// Whether a version has such marks.
+fn has_mark(version: Version, kind: PriceMark) -> bool
+    ensures { result ≡ has_mark version kind }
+{
+    match (version, kind) {
+        (Version::First | Version::Second, _) => false,
+        (Version::Third, PriceMark::Reached) => true,
+        (Version::Third, PriceMark::Swept) => false,
+        (Version::Fourth, _) => true,
+    }
+}
+
+/// Appends the two numbers of a mark that names prices.
+fn push_pair(list: &mut Vec<Value>, kind: PriceMark, number: u64) -> Result<(), AllocError>
+    ensures { OnOk result (map view list.new.items ≡ map view list.old.items ++ map number_data (first_number kind ∷ number ∷ [])) }
+{
+    push_number(list, first_number(kind))?;
+    push_number(list, number)
+}
+
 /// Appends the number of a ground, or its two numbers.
 fn push_ground(list: &mut Vec<Value>, numbering: Numbering, why: Ground) -> Result<(), AllocError>
     requires { IsFormedGround numbering why }
@@ -57,10 +106,8 @@ fn push_ground(list: &mut Vec<Value>, numbering: Numbering, why: Ground) -> Resu
         Ground::Throughput => push_number(list, 2),
         Ground::Probe(ship) => push_number(list, 10 + u64::from(ship)),
         Ground::Cut(number) => push_number(list, first_cut_mark(numbering) + number),
-        Ground::Price(number) => {
-            push_number(list, 4)?;
-            push_number(list, number)
-        }
+        Ground::Price(number) => push_pair(list, PriceMark::Reached, number),
+        Ground::Swept(number) => push_pair(list, PriceMark::Swept, number),
     }
 }
 
@@ -104,43 +151,64 @@ fn mark_of(form: Form, numbering: Numbering, number: u64) -> Option<Mark>
     }
 }
 
+/// The mark of a version that a number is the first of two of.
+fn begun_by(version: Version, number: u64) -> Option<PriceMark>
+    ensures { result ≡ begun_by version number }
+{
+    if number == first_number(PriceMark::Reached) && has_mark(version, PriceMark::Reached) {
+        Some(PriceMark::Reached)
+    } else if number == first_number(PriceMark::Swept) && has_mark(version, PriceMark::Swept) {
+        Some(PriceMark::Swept)
+    } else {
+        None
+    }
+}
+
+/// The mark of such a kind that names the prices of a number.
+fn naming_prices(kind: PriceMark, number: u64) -> Mark
+    ensures { result ≡ naming_prices kind number }
+{
+    match kind {
+        PriceMark::Reached => Mark::Leaf(Ground::Price(number)),
+        PriceMark::Swept => Mark::Leaf(Ground::Swept(number)),
+    }
+}
+
 /// The mark of the second number of two.
-fn price_mark_in(value: &Value) -> Option<Mark>
-    ensures { result ≡ price_mark_in (view value.now) }
+fn second_in(kind: PriceMark, value: &Value) -> Option<Mark>
+    ensures { result ≡ second_in kind (view value.now) }
 {
     let number = number_below(value, 9_223_372_036_854_775_808)?;
-    Some(Mark::Leaf(Ground::Price(number)))
+    Some(naming_prices(kind, number))
 }
 
 /// What a number says that isn't the second of two.
 #[tactic(auto, unfolding(crate::specs::Marks::mark_in))]
-fn first_in(form: Form, numbering: Numbering, third: bool, value: &Value) -> Option<Option<Mark>>
-    ensures { result ≡ mark_in form numbering third false (view value.now) }
+fn first_in(form: Form, numbering: Numbering, version: Version, value: &Value) -> Option<Told>
+    ensures { result ≡ mark_in form numbering version None (view value.now) }
 {
     let number = value.as_u64()?;
-    if third && number == 4 {
-        return Some(None);
+    match begun_by(version, number) {
+        Some(kind) => Some(Told::Begun(kind)),
+        None => Some(Told::Ended(mark_of(form, numbering, number)?)),
     }
-    Some(Some(mark_of(form, numbering, number)?))
 }
 
-/// What a number of a tree says, in the third version or in one before it: the mark that it ends, or no
-/// mark where it begins one of two numbers, which only the third version has. `begun` says that such a
-/// number stands before it. None where it says nothing. Takes no memory.
+/// What a number of a tree says in a version: the mark that it ends, or the one of two numbers that it
+/// begins. `begun` says which stands before it. None where it says nothing. Takes no memory.
 #[tactic(auto, unfolding(crate::specs::Marks::mark_in))]
 pub fn mark_in(
     form: Form,
     numbering: Numbering,
-    third: bool,
-    begun: bool,
+    version: Version,
+    begun: Option<PriceMark>,
     value: &Value,
-) -> Option<Option<Mark>>
-    ensures { result ≡ mark_in form numbering third begun (view value.now) }
+) -> Option<Told>
+    ensures { result ≡ mark_in form numbering version begun (view value.now) }
 {
-    if begun {
-        Some(Some(price_mark_in(value)?))
-    } else {
-        first_in(form, numbering, third, value)
+    match begun {
+        Some(kind) => Some(Told::Ended(second_in(kind, value)?)),
+        None => first_in(form, numbering, version, value),
     }
 }
 
@@ -157,10 +225,14 @@ pub fn push_mark(list: &mut Vec<Value>, numbering: Numbering, mark: Mark) -> Res
     }
 }
 
-/// Whether a mark names prices.
-#[tactic(auto, unfolding(crate::specs::Marks::is_price_mark))]
-pub fn is_price_mark(mark: Mark) -> bool
-    ensures { result ≡ is_price_mark mark }
+/// Whether a mark is one that a version doesn't have, but a later one.
+#[tactic(auto, unfolding(crate::specs::Marks::is_later))]
+pub fn is_later(version: Version, mark: Mark) -> bool
+    ensures { result ≡ is_later version mark }
 {
-    matches!(mark, Mark::Leaf(Ground::Price(_)))
+    match mark {
+        Mark::Leaf(Ground::Price(_)) => !has_mark(version, PriceMark::Reached),
+        Mark::Leaf(Ground::Swept(_)) => !has_mark(version, PriceMark::Swept),
+        _ => false,
+    }
 }

@@ -12,6 +12,7 @@ use crate::cuts::put_cuts;
 use crate::heading::Version;
 use crate::plan::put_plan;
 use crate::prices::put_prices;
+use crate::version::has_prices;
 use certificate_parts::CertCuts;
 use lock_model::Plan;
 use no_memory::NoMemory;
@@ -74,12 +75,9 @@ pub fn put_parts(
     ensures plan_back { IfOk result (λ _. IsPlanBack parts.now.plan.now) }
 {
     let mut map = put_members(alloc, parts, tree)?;
-    match version {
-        Version::First | Version::Second => Ok(Value::Object(map)),
-        Version::Third => {
-            let prices = put_prices(alloc, parts.prices)?;
-            serde_json::put(&mut map, alloc, "prices", prices)?;
-            Ok(Value::Object(map))
-        }
+    if has_prices(version) {
+        let prices = put_prices(alloc, parts.prices)?;
+        serde_json::put(&mut map, alloc, "prices", prices)?;
     }
+    Ok(Value::Object(map))
 }

@@ -9,6 +9,7 @@ ghost use Rattle.cert_text.specs.declared.bad.BadDossier.TheVariants.{Shape};
 use crate::bad::{BadDossier, DossierError};
 use crate::heading::Version;
 use crate::value::number_below;
+use crate::version::has_prices;
 use crate::why::push_words;
 use arrayvec::ArrayVec;
 use certificate_parts::PriceLists;
@@ -115,7 +116,7 @@ fn price_lists_in(
 }
 
 /// The lists of prices at the key `prices`.
-fn third_prices(alloc: Global, most: usize, value: &Value) -> Result<Option<PriceLists>, AllocError>
+fn own_prices(alloc: Global, most: usize, value: &Value) -> Result<Option<PriceLists>, AllocError>
     requires { most ≤ SHIPS }
     ensures { IfOk result (λ o. o ≡ value_at (codes "prices") (price_lists_in most) (view value.now)) }
 {
@@ -125,7 +126,7 @@ fn third_prices(alloc: Global, most: usize, value: &Value) -> Result<Option<Pric
     }
 }
 
-/// The lists of prices of a version, which no version before the third has.
+/// The lists of prices of a version, which are none where it has no prices.
 fn prices_under(
     alloc: Global,
     most: usize,
@@ -135,14 +136,15 @@ fn prices_under(
     requires { most ≤ SHIPS }
     ensures { IfOk result (λ o. o ≡ prices_under most version (view value.now)) }
 {
-    match version {
-        Version::First | Version::Second => Ok(Some(PriceLists::new(alloc))),
-        Version::Third => third_prices(alloc, most, value),
+    if has_prices(version) {
+        own_prices(alloc, most, value)
+    } else {
+        Ok(Some(PriceLists::new(alloc)))
     }
 }
 
-/// The lists of prices at the key `prices`, each of 1 to `most` numbers up to 1,000,000; before the third
-/// version none. Answers `Shape(6)` exactly where there are no such lists, or else want of memory.
+/// The lists of prices at the key `prices`, each of 1 to `most` numbers up to 1,000,000; none where the
+/// version has no prices. Answers `Shape(6)` exactly where there are no such lists, or else want of memory.
 pub fn prices_at(
     alloc: Global,
     most: usize,

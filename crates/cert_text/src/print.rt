@@ -27,8 +27,10 @@ fn heading_line(form: Form, version: Version) -> &'static [u8]
         (Form::Whole, Version::First) => b"certificate\n",
         (Form::Whole, Version::Second) => b"certificate 2\n",
         (Form::Whole, Version::Third) => b"certificate 3\n",
+        (Form::Whole, Version::Fourth) => b"certificate 4\n",
         (Form::Open, Version::First | Version::Second) => b"certificate open\n",
         (Form::Open, Version::Third) => b"certificate open 3\n",
+        (Form::Open, Version::Fourth) => b"certificate open 4\n",
     }
 }
 

@@ -98,9 +98,9 @@ fn read_text(
 }
 
 /// The instance and the certificate of a dossier of this form and any heading of it: `certificate`,
-/// `certificate 2` or `certificate 3` where it is whole, so that no mark is an open leaf, and
-/// `certificate open` or `certificate open 3` where it may leave nodes open. `NoMark` comes for the
-/// lines of the other form too. Answers the first fault exactly where the bytes are no dossier of the
+/// `certificate 2`, `certificate 3` or `certificate 4` where it is whole, so that no mark is an open leaf,
+/// and `certificate open`, `certificate open 3` or `certificate open 4` where it may leave nodes open.
+/// `NoMark` comes for the lines of the other form too. Answers the first fault exactly where the bytes are no dossier of the
 /// form, or else want of memory. JSON may nest 127 deep, so no input needs a deeper stack.
 pub fn read_dossier(
     alloc: Global,

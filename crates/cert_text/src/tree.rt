@@ -1,17 +1,17 @@
 //! Trees of marks as JSON values.
-ghost use Rattle.std.specs.Prelude.{◌≡◌, ◌++◌, false, All, IfOk, IfErr, OnOk, Some, None, map, codes};
+ghost use Rattle.std.specs.Prelude.{◌≡◌, ◌++◌, All, IfOk, IfErr, OnOk, Some, None, map, codes};
 ghost use Rattle.std.specs.List.{flat_map};
 ghost use Rattle.serde_json.specs.View.{view, items_view};
 ghost use Rattle.cert_text.specs.Answers.{IsCausedFault};
 ghost use Rattle.cert_text.specs.Fields.{number_data, value_at};
 ghost use Rattle.certificate_rules.specs.WellFormed.{IsFormedMark};
 ghost use Rattle.cert_text.specs.Marks.{mark_numbers, mark_in};
-ghost use Rattle.cert_text.specs.Trees.{listed, marks_in, tree_data, tree_in};
+ghost use Rattle.cert_text.specs.Trees.{listed, begun_behind, marks_in, tree_data, tree_in};
 ghost use Rattle.cert_text.specs.declared.bad.BadDossier.TheVariants.{Shape};
 
 use crate::bad::{BadDossier, DossierError};
-use crate::heading::Form;
-use crate::marks::{mark_in, push_mark};
+use crate::heading::{Form, Version};
+use crate::marks::{PriceMark, Told, mark_in, push_mark};
 use certificate_parts::{Mark, MarkList};
 use certificate_rules::Numbering;
 use serde_json::Value;
@@ -38,13 +38,23 @@ pub fn put_tree(alloc: Global, numbering: Numbering, tree: &MarkList) -> Result<
     Ok(Value::Array(list))
 }
 
-/// Appends a mark, if there is one.
-fn push_told(tree: &mut MarkList, told: Option<Mark>) -> Result<(), AllocError>
+/// Appends the mark that a number ends, if it does.
+fn push_told(tree: &mut MarkList, told: Told) -> Result<(), AllocError>
     ensures { OnOk result (tree.new ≡ tree.old ++ listed told) }
 {
     match told {
-        Some(mark) => tree.push(mark),
-        None => Ok(()),
+        Told::Ended(mark) => tree.push(mark),
+        Told::Begun(_) => Ok(()),
+    }
+}
+
+/// The mark of two numbers that a number begins, if it does.
+fn begun_behind(told: Told) -> Option<PriceMark>
+    ensures { result ≡ begun_behind told }
+{
+    match told {
+        Told::Ended(_) => None,
+        Told::Begun(kind) => Some(kind),
     }
 }
 
@@ -53,21 +63,21 @@ fn marks_in(
     alloc: Global,
     form: Form,
     numbering: Numbering,
-    third: bool,
+    version: Version,
     list: &[Value],
 ) -> Result<Option<MarkList>, AllocError>
-    ensures { IfOk result (λ o. o ≡ marks_in (mark_in form numbering third) false (items_view list.now)) }
+    ensures { IfOk result (λ o. o ≡ marks_in (mark_in form numbering version) None (items_view list.now)) }
 {
     let mut tree = MarkList::with_capacity(alloc, list.len())?;
-    let mut begun = false;
+    let mut begun = None;
     for value in list {
-        let Some(told) = mark_in(form, numbering, third, begun, value) else {
+        let Some(told) = mark_in(form, numbering, version, begun, value) else {
             return Ok(None);
         };
-        begun = told.is_none();
+        begun = begun_behind(told);
         push_told(&mut tree, told)?;
     }
-    if begun {
+    if begun.is_some() {
         return Ok(None);
     }
     Ok(Some(tree))
@@ -78,13 +88,13 @@ fn tree_in(
     alloc: Global,
     form: Form,
     numbering: Numbering,
-    third: bool,
+    version: Version,
     value: &Value,
 ) -> Result<Option<MarkList>, AllocError>
-    ensures { IfOk result (λ o. o ≡ tree_in (mark_in form numbering) third (view value.now)) }
+    ensures { IfOk result (λ o. o ≡ tree_in (mark_in form numbering version) (view value.now)) }
 {
     match value.as_array() {
-        Some(list) => marks_in(alloc, form, numbering, third, list.as_slice()),
+        Some(list) => marks_in(alloc, form, numbering, version, list.as_slice()),
         None => Ok(None),
     }
 }
@@ -94,32 +104,32 @@ fn tree_of(
     alloc: Global,
     form: Form,
     numbering: Numbering,
-    third: bool,
+    version: Version,
     value: &Value,
 ) -> Result<MarkList, DossierError>
-    ensures read { IfOk result (λ tree. tree_in (mark_in form numbering) third (view value.now) ≡ Some tree) }
-    ensures shape { IfErr result (IsCausedFault (Shape 5) (tree_in (mark_in form numbering) third (view value.now) ≡ None)) }
+    ensures read { IfOk result (λ tree. tree_in (mark_in form numbering version) (view value.now) ≡ Some tree) }
+    ensures shape { IfErr result (IsCausedFault (Shape 5) (tree_in (mark_in form numbering version) (view value.now) ≡ None)) }
 {
-    match tree_in(alloc, form, numbering, third, value)? {
+    match tree_in(alloc, form, numbering, version, value)? {
         Some(tree) => Ok(tree),
         None => Err(DossierError::Fault(BadDossier::Shape(5))),
     }
 }
 
-/// The marks at the key `tree`, in the third version or in one before it. Answers `Shape(5)` exactly
-/// where there are none, or else want of memory.
+/// The marks of a version at the key `tree`. Answers `Shape(5)` exactly where there are none, or else want
+/// of memory.
 pub fn tree_at(
     alloc: Global,
     form: Form,
     numbering: Numbering,
-    third: bool,
+    version: Version,
     value: &Value,
 ) -> Result<MarkList, DossierError>
-    ensures read { IfOk result (λ tree. value_at (codes "tree") (tree_in (mark_in form numbering) third) (view value.now) ≡ Some tree) }
-    ensures shape { IfErr result (IsCausedFault (Shape 5) (value_at (codes "tree") (tree_in (mark_in form numbering) third) (view value.now) ≡ None)) }
+    ensures read { IfOk result (λ tree. value_at (codes "tree") (tree_in (mark_in form numbering version)) (view value.now) ≡ Some tree) }
+    ensures shape { IfErr result (IsCausedFault (Shape 5) (value_at (codes "tree") (tree_in (mark_in form numbering version)) (view value.now) ≡ None)) }
 {
     match value.get("tree") {
-        Some(tree) => tree_of(alloc, form, numbering, third, tree),
+        Some(tree) => tree_of(alloc, form, numbering, version, tree),
         None => Err(DossierError::Fault(BadDossier::Shape(5))),
     }
 }

@@ -1,22 +1,20 @@
 //! The version that a certificate is written in.
 ghost use Rattle.std.specs.Prelude.{◌≡◌};
-ghost use Rattle.std.specs.List.{list_any};
-ghost use Rattle.cert_text.specs.Marks.{is_price_mark};
-ghost use Rattle.cert_text.specs.Versions.{is_by_clash, is_by_berths, is_outside, has_outside, needs_third, needs_second, version_of, is_third};
+ghost use Rattle.cert_text.specs.Versions.{has_prices, is_by_clash, is_by_berths, is_outside, has_outside, has_later, needs_third, needs_second, version_of};
 
 use crate::heading::{Form, Version};
-use crate::marks::is_price_mark;
+use crate::marks::is_later;
 use certificate_parts::{CertCuts, Certificate, MarkList};
 use price_terms::Prices;
 use refute_rules::Refutation;
 
-/// Whether marks may name prices.
-pub fn is_third(version: Version) -> bool
-    ensures { result ≡ is_third version }
+/// Whether a version has prices.
+pub fn has_prices(version: Version) -> bool
+    ensures { result ≡ has_prices version }
 {
     match version {
         Version::First | Version::Second => false,
-        Version::Third => true,
+        Version::Third | Version::Fourth => true,
     }
 }
 
@@ -41,7 +39,7 @@ fn is_outside(version: Version, refutation: &Refutation) -> bool
     match version {
         Version::First => is_by_clash(refutation) || is_by_berths(refutation),
         Version::Second => is_by_berths(refutation),
-        Version::Third => false,
+        Version::Third | Version::Fourth => false,
     }
 }
 
@@ -57,12 +55,12 @@ pub fn has_outside(version: Version, cuts: &CertCuts) -> bool
     false
 }
 
-/// Whether some mark names prices.
-fn has_price_mark(tree: &MarkList) -> bool
-    ensures { result ≡ list_any is_price_mark tree.now }
+/// Whether some mark is one of a later version.
+fn has_later(version: Version, tree: &MarkList) -> bool
+    ensures { result ≡ has_later version tree.now }
 {
     for mark in tree.as_slice() {
-        if is_price_mark(*mark) {
+        if is_later(version, *mark) {
             return true;
         }
     }
@@ -98,7 +96,9 @@ pub(crate) fn version_of(form: Form, certificate: &Certificate) -> Version
         tree,
         ..
     } = certificate;
-    if needs_third(cuts, prices.as_slice(), has_price_mark(tree)) {
+    if has_later(Version::Third, tree) {
+        Version::Fourth
+    } else if needs_third(cuts, prices.as_slice(), has_later(Version::Second, tree)) {
         Version::Third
     } else if needs_second(form, cuts) {
         Version::Second

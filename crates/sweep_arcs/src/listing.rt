@@ -110,7 +110,8 @@ fn put_arc(
     if arc.worth > range.limit {
         return Ok(());
     }
-    append(arcs, arc)
+    append(arcs, arc)?;
+    Ok(())
 }
 
 // Puts arcs of least worth first.
