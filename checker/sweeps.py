@@ -1,4 +1,4 @@
-"""Sweeps: whether no uncut plan costs less (rules.md, Uncut plans; method.md tells how a sweep goes).
+"""Sweeps: whether no uncut plan costs less (rules.md, Sweeps; dossier.md, Whether a cost is swept, worked out).
 
 Beginnings of uncut plans are made lockage by lockage, in the order of start and chamber. Of a beginning its label keeps the
 flow time, and then by chamber and way the least start of a next lockage. Of two labels of the same ships one that is nowhere
