@@ -29,8 +29,8 @@ pub(crate) fn opened(table: &Table, state: State) -> Frame
     }
 }
 
-#[inline(always)]
 /// The value of a state, where it is known.
+#[inline(always)]
 pub(crate) fn known(table: &Table, values: &Values, state: State) -> Option<i64>
     requires values { AreValues (line_asked table.now.case.now) table.now.horizon values.now }
     requires place { state.place ≤ length table.now.case.now.line.now }
@@ -45,8 +45,8 @@ pub(crate) fn known(table: &Table, values: &Values, state: State) -> Option<i64>
     }
 }
 
-#[inline(always)]
 // Counts a successor that leads to a place, or names the state behind it whose value isn't known yet.
+#[inline(always)]
 fn count_to(
     table: &Table,
     values: &Values,
@@ -85,8 +85,8 @@ fn count_to(
     }
 }
 
-#[inline(always)]
 // Counts a successor, or names the state behind it whose value isn't known yet.
+#[inline(always)]
 fn count(
     table: &Table,
     values: &Values,

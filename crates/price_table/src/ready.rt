@@ -34,8 +34,8 @@ impl Ready {
         }
     }
 
-    #[inline(always)]
     // The first minute for a way.
+    #[inline(always)]
     pub(crate) fn minute(&self, way: Way) -> u64
         ensures { result ≡ minute_for self.now way }
     {
@@ -45,8 +45,8 @@ impl Ready {
         }
     }
 
-    #[inline(always)]
     // The first minute from another one on from which the chamber is open for so long.
+    #[inline(always)]
     pub(crate) fn first_free(&self, case: &LineCase, long: u64, from: u64) -> u64
         requires is { IsReady case.now.instance.now case.now.index self.now }
         requires long { long ≤ 9000000 }

@@ -44,8 +44,8 @@ impl Route {
         })
     }
 
-    #[inline(always)]
     // Whether a successor is of this route.
+    #[inline(always)]
     pub(crate) fn has(&self, successor: &Successor) -> bool
         ensures joins { IsTrue result → successor.now.joins ≡ self.now.joins }
         ensures way { IsTrue result → successor.now.group.way ≡ self.now.way }
@@ -63,9 +63,9 @@ impl Route {
         Threshold { end: 0, worth }
     }
 
-    #[inline(always)]
     // The threshold once a successor that ends at this minute is counted, behind which the least is a
     // value.
+    #[inline(always)]
     pub(crate) fn threshold(&self, end: u64, best: i64, value: i64) -> Threshold
         requires best_low { neg_ℤ (pos 1000000000000000) ≤ℤ best }
         requires best_high { best ≤ℤ pos 1000000000000000 }
@@ -86,9 +86,9 @@ impl Route {
 }
 
 impl Threshold {
-    #[inline(always)]
     // Whether a successor that ends at this minute and is worth so much ends no sooner and is worth no
     // less.
+    #[inline(always)]
     pub(crate) fn is_reached(&self, end: u64, worth: i64) -> bool
         requires low { neg_ℤ (pos 2000000000000000) ≤ℤ self.now.worth }
         requires high { self.now.worth ≤ℤ pos 2000000000000000 }

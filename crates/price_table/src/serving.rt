@@ -22,8 +22,8 @@ pub(crate) struct Served {
     pub(crate) worth: i64,
 }
 
-#[inline(always)]
 // The product of a number of ships and a minute.
+#[inline(always)]
 fn product(count: u64, end: u64) -> u64
     requires count { count ≤ MOST }
     requires end { end ≤ 30000000 }
@@ -33,8 +33,8 @@ fn product(count: u64, end: u64) -> u64
     count * end
 }
 
-#[inline(always)]
 // A successor that ends at a minute.
+#[inline(always)]
 fn ended(successor: &Successor, end: u64) -> Served
     requires end { end ≤ 30000000 }
     requires fair { successor.now.pays ≤ 808000000 }
@@ -123,16 +123,16 @@ pub(crate) fn alone(case: &LineCase, state: State) -> i64
     alone_on(case, &state, &case.line[state.place as usize..])
 }
 
-#[inline(always)]
 /// Whether a successor may be left out: missing ships alone that gain nothing.
+#[inline(always)]
 pub(crate) fn is_idle(successor: &Successor, worth: i64) -> bool
     ensures { IsTrue result → (successor.now.joins ≡ None) × (pos 0 ≤ℤ worth) }
 {
     successor.joins.is_none() && worth >= 0
 }
 
-#[inline(always)]
 /// The lesser of a value and of what a successor comes to with the value behind it.
+#[inline(always)]
 pub(crate) fn lesser(best: i64, worth: i64, behind: i64) -> i64
     requires worth_low { neg_ℤ (pos 1000000000000000) ≤ℤ worth }
     requires worth_high { worth ≤ℤ pos 1000000000000000 }

@@ -25,8 +25,8 @@ fn side(stand: Stand) -> u64
 }
 
 impl State {
-    #[inline(always)]
     // A number that no other state has whose place is one of so many.
+    #[inline(always)]
     pub(crate) fn key(&self, places: u64) -> u64
         requires few { places ≤ SHIPS_AND_ROOT }
         requires place { self.now.place < places }

@@ -22,9 +22,9 @@ pub(crate) struct Counted {
     pub(crate) threshold: Threshold,
 }
 
-#[inline(always)]
 // Counts a successor, where it is of the route and reaches the threshold or the value behind it stands in
 // the row; whether that is so.
+#[inline(always)]
 fn sweep_one(
     table: &Table,
     values: &Values,
@@ -72,10 +72,10 @@ fn sweep_one(
     }
 }
 
-#[inline(never)]
 /// Counts more successors of a frame: those of the route one after another, up to one of another route,
 /// or whose value behind it doesn't stand in the row. Apart from what calls others, the loop keeps what
 /// it needs in registers.
+#[inline(never)]
 pub(crate) fn sweep(
     table: &Table,
     values: &Values,

@@ -43,8 +43,8 @@ impl Values {
         }
     }
 
-    #[inline(always)]
     // The place in the row of the state that has the key, if it has one.
+    #[inline(always)]
     fn place(&self, key: u64) -> Option<usize>
         ensures { IfSome result (λ place. (key ≡ self.now.start + place) × (place < length self.now.row.items)) }
     {
@@ -59,8 +59,8 @@ impl Values {
         }
     }
 
-    #[inline(always)]
     // What is remembered for a state.
+    #[inline(always)]
     pub(crate) fn find(&self, state: &State) -> Option<i64>
         requires few { self.now.places ≤ SHIPS_AND_ROOT }
         requires place { state.now.place < self.now.places }
@@ -74,8 +74,8 @@ impl Values {
         }
     }
 
-    #[inline(always)]
     // What is remembered for a state in the row.
+    #[inline(always)]
     pub(crate) fn in_row(&self, state: &State) -> Option<i64>
         requires few { self.now.places ≤ SHIPS_AND_ROOT }
         requires place { state.now.place < self.now.places }

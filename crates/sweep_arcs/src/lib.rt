@@ -5,8 +5,9 @@
 //! groups that may come next for a way from a minute on, but for those whose worth is above a room; and
 //! `arrivals` lists the ships that the chamber waits for. What was worked out is kept by minute.
 //!
-//! A chamber whose ways have more uncut groups than the limits allow is refused, and an instance whose
-//! groups may be served later than the greatest price counts.
+//! Groups are grown for a spread, how far rooms may reach: those with a ship that even at the soonest costs
+//! more than its price and the spread are left out. A chamber whose ways have more groups than the limits
+//! allow is refused, and an instance whose groups may be served later than the greatest price counts.
 //!
 //! Definitions: `sweep_labels` says what arcs and gains are (`specs/Arcs`) and when ships are listed
 //! (`specs/Coming`). Here `specs/Lanes` says what a `Lane` keeps and promises, `Ways` what it keeps of a

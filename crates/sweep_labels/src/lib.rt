@@ -8,7 +8,9 @@
 //!
 //! Definitions: `sweep_rules` says what labels stand for. Here `specs/Ships` says which ships a number
 //! stands for, `Labels` which label of the rules one of the code is and which one dominates another,
-//! and `Putting` what becomes of the list.
+//! `Coming` whom a chamber waits for, `Steps` how labels go on, `Arcs` what a chamber's arcs and gains
+//! promise, `Rows` what is kept by minute, and `Sweeping` when labels are open or treated. `Made` and
+//! `Putting` are of what becomes of the list.
 #![tactic(auto)]
 
 mod arrivals;
