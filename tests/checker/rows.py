@@ -17,7 +17,7 @@ from check_dossier import answer
 from texts import judged, solved
 from worked_refutations import REFUTED, asking
 
-CHECKER, MOST_LINES = pathlib.Path(__file__).resolve().parents[2] / "checker", 700
+CHECKER, MOST_LINES = pathlib.Path(__file__).resolve().parents[2] / "checker", 720
 JUDGING = "check_dossier dossier_text price_bound refutations sweeps times".split()
 ROWS = pathlib.Path(__file__).resolve().parents[1] / "rows"
 sys.path.append(str(ROWS))
