@@ -42,7 +42,7 @@ const FEW_AT_A_TIME: u8 = 2;
 
 // How many labels all sweeps of a search may make for each node of the budget, and at the most: they take
 // some 260 bytes each while a sweep lasts.
-const LABELS_A_NODE: u64 = 10;
+const LABELS_A_NODE: u64 = 100;
 
 const MOST_LABELS: u64 = 1_000_000;
 
