@@ -9,3 +9,9 @@ returns-in-Price c =
     let claim = c.args.claim.now in
     let node = c.args.node.now in
     subst (λ (why : Ground). IfOk c.is_priced_by.result (λ closed. IsTrue closed ↔ EndsNode claim.instance.now claim.cost claim.cuts.now claim.prices.now node.depth node.lines (mark.Leaf why))) (sym c.in-Price.is) c.is_priced_by.ensures
+
+pub returns-in-Swept : goal.returns-in-Swept
+returns-in-Swept c =
+    let claim = c.args.claim.now in
+    let node = c.args.node.now in
+    subst (λ (why : Ground). IfOk c.is_swept_by.result (λ closed. IsTrue closed ↔ EndsNode claim.instance.now claim.cost claim.cuts.now claim.prices.now node.depth node.lines (mark.Leaf why))) (sym c.in-Swept.is) c.is_swept_by.ensures
