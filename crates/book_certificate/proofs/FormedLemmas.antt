@@ -32,7 +32,8 @@ use Rattle.book_rules.specs.States.{KeepsStates}
 use Rattle.closing_rules.specs.ProvedCuts.{IsProved}
 use Rattle.closing_rules.specs.ListedPrices.{ArePrices, AreShapedPrices}
 use Rattle.certificate_rules.specs.declared.numbering.Numbering.TheVariants.{Few, Many}
-use Rattle.certificate_rules.specs.WellFormed.{numbering_of, probed_ships, most_lockages, IsFormedReason, IsFormedRefutation, IsFormedCut, IsFormedLockage, AreFormedPrices, IsFormedGround}
+use Rattle.lock_model.specs.Fleet.{most_lockages, is_large}
+use Rattle.certificate_rules.specs.WellFormed.{numbering_of, probed_ships, IsFormedReason, IsFormedRefutation, IsFormedCut, IsFormedLockage, AreFormedPrices, IsFormedGround}
 use Rattle.lock_rules.proofs.AmongLemmas.{contains-times}
 use Rattle.book_rules.proofs.MoveLemmas.{TellsAt}
 use Rattle.book_rules.proofs.StateLemmas.{state-tells}
@@ -89,7 +90,7 @@ few-lockages I P legal = omega (arith, few_lockages I P.lockages legal.lockage, 
 
 -- no more than there are ships are few enough to be listed
 listed : (ships : List Ship) (n : ℕ) → n ≤ length ships → n ≤ most_lockages ships
-unfolding most_lockages
+unfolding most_lockages is_large
 listed ships n low = elim (leb_tells (suc FEW_SHIPS) (length ships)) [
   | inl large ↦ subst (λ t. n ≤ cond t (length ships) FEW_SHIPS) (sym large.0) low
   | inr small ↦ subst (λ t. n ≤ cond t (length ships) FEW_SHIPS) (sym small.0) (omega (arith, low, small.1))
@@ -106,7 +107,7 @@ prices-formed I prices are shaped =
 
 -- a mark may name each ship
 probed : (ships : List Ship) (s : ℕ) → length ships ≤ SHIPS → s < length ships → s < probed_ships (numbering_of ships)
-unfolding numbering_of
+unfolding numbering_of is_large
 probed ships s few known = elim (leb_tells (suc FEW_SHIPS) (length ships)) [
   | inl large ↦ subst (λ t. s < probed_ships (cond t Many Few)) (sym large.0) (omega (arith, few, known))
   | inr small ↦ subst (λ t. s < probed_ships (cond t Many Few)) (sym small.0) (omega (arith, small.1, known))

@@ -21,7 +21,8 @@ use Rattle.closing_rules.specs.ProvedCuts.{IsProved}
 use Rattle.closing_rules.specs.ListedPrices.{ArePrices, AreShapedPrices}
 use Rattle.certificate_rules.specs.Certificates.{Certificate, EndsNode, IsMarkTree, Stands, IsNoOpenLeaf, HasNoOpenLeaf, Accepts}
 use Rattle.certificate_rules.specs.Low.{HasOpen, IsLow}
-use Rattle.certificate_rules.specs.WellFormed.{numbering_of, most_lockages, IsFormedCut, AreFormedPrices, IsFormedMark, IsWellFormed}
+use Rattle.lock_model.specs.Fleet.{most_lockages}
+use Rattle.certificate_rules.specs.WellFormed.{numbering_of, IsFormedCut, AreFormedPrices, IsFormedMark, IsWellFormed}
 use Rattle.book_rules.proofs.CheapLemmas.{count-some}
 use Rattle.book_certificate.specs.Certified.{cert_cut}
 use Rattle.book_certificate.proofs.FormedLemmas.{own-formed, own-proved, legal-formed, plan-listed, prices-formed, ground-formed}
