@@ -85,7 +85,12 @@ fn a_swept_root_is_accepted_by_any_prices(rt: HostRuntime) -> Result<(), Fail> {
 
 #[test]
 fn without_its_cut_the_root_is_not_swept(rt: HostRuntime) -> Result<(), Fail> {
-    let answer = narrow_answer(rt.alloc(), CertCuts::new(rt.alloc()), &[8500, 8500], &[SWEPT])?;
+    let answer = narrow_answer(
+        rt.alloc(),
+        CertCuts::new(rt.alloc()),
+        &[8500, 8500],
+        &[SWEPT],
+    )?;
     assert!(rt; answer == wrong_at(0));
     Ok(())
 }
