@@ -47,7 +47,7 @@ stack_is_enough() {
   [[ $answer = "accepted cost "* ]] || return 1
   lot=$("$program" lot --number 1 --ships 96 --chambers 2) || return 1
   answer=$(ulimit -s 2048 && "$program" solve --nodes 2000 --workers 8 <<<"$lot") && status=0 || status=$?
-  [ $status = 1 ] && [[ $answer = "open nodes "* ]] || return 1
+  [ $status = 0 ] && [[ $answer = "optimal cost "* ]] || return 1
   (ulimit -s 512 && cat examples/evening.lock examples/evening.plan | "$program" judge >/dev/null) &&
     (ulimit -s 512 && cat examples/evening.lock examples/evening.plan | "$program" play >/dev/null)
 }
