@@ -8,7 +8,7 @@ use price_bound::{KeptLines, PricedNode, show};
 use price_terms::{ChamberCut, Limits, Prices, Shown, Swept};
 use std::alloc::Global;
 use std::test::Fail;
-use sweep::{SweepAsked, SweepEnd, SweepLimits, sweep};
+use sweep::{SweepAsked, SweepEnd, SweepLimits, SweepOutcome, sweep};
 use worked_locks::pair;
 
 const LIMITS: Limits = Limits {
@@ -71,6 +71,7 @@ impl PricedRoot {
         };
         Ok(show(&mut KeptLines::new(alloc), &asked, 120, LIMITS)?.ok_or("not shown")?)
     }
+
     /// That its cut leaves no uncut plan below this cost.
     pub(crate) fn swept(&self, alloc: Global, cost: u64) -> Result<Swept<'_>, Fail> {
         let asked = SweepAsked {
@@ -79,9 +80,10 @@ impl PricedRoot {
             prices: &self.prices,
             goal: cost,
         };
-        match sweep(alloc, &asked, SWEEP_LIMITS)?.end {
+        let SweepOutcome { end, .. } = sweep(alloc, &asked, SWEEP_LIMITS)?;
+        match end {
             SweepEnd::Swept(swept) => Ok(swept),
-            SweepEnd::Cheaper(_) => Err("not swept".into()),
+            SweepEnd::Cheaper(_plan) => Err("not swept".into()),
         }
     }
 }
