@@ -101,9 +101,10 @@ def solve(solver, text, seconds):
         began = time.time()
         subprocess.run(words, capture_output=True, text=True)
         took, said = time.time() - began, open(out).read() if os.path.exists(out) else "no solution"
-    cost = None if "no integer solution" in said else re.search(r"objective value\s+([\d.]+)|Objective:\s+\S+ = ([\d.]+)", said)
-    status = "optimal" if re.search(r"^Optimal|INTEGER OPTIMAL", said, re.M) else "open"
-    return f"{status} cost {float(cost[1] or cost[2]):.0f}, {took:.1f} s" if cost else f"no plan, {took:.1f} s"
+    cost = re.search(r"objective value\s+([\d.]+)|Objective:\s+\S+ = ([\d.]+)", said)
+    if cost and re.search(r"^Optimal|INTEGER OPTIMAL", said, re.M):
+        return f"optimal cost {float(cost[1] or cost[2]):.0f}, {took:.1f} s"
+    return f"not solved, {took:.1f} s"
 
 
 def main():
