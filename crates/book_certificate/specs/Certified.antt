@@ -1,12 +1,14 @@
 -- What the certificate of a book is, and its low; which books have one that leaves no node open.
-use Rattle.std.specs.Prelude.{ℕ, ◌≡◌, ◌<◌, true, false, length, map, min}
+use Rattle.std.specs.Prelude.{ℕ, ◌≡◌, ◌<◌, ◌≤◌, true, false, length, map, min}
 use Rattle.lock_model.specs.declared.verdict.Verdict.{Verdict}
 use Rattle.lock_model.specs.declared.verdict.Verdict.TheVariants as verdict
 use Rattle.book_rules.specs.declared.book.SlotState.TheVariants as slot
 use Rattle.refute_rules.specs.Cuts.{Cut}
 use Rattle.book_rules.specs.Book.{Book, slot_at, best_cost, is_live}
+use Rattle.book_rules.specs.Verdict.{verdict_of}
 use Rattle.closing_rules.specs.ProvedCuts.{CertCut}
 use Rattle.certificate_rules.specs.Certificates.{Certificate}
+use Rattle.certificate_rules.specs.Low.{IsLow}
 use Rattle.book_certificate.specs.Preorder.{mark_at, slots_in_order}
 
 -- slot `id` is open, held or parked
@@ -40,6 +42,12 @@ abbrev pub certified_low : ℕ → Verdict → ℕ
 certified_low cost verdict.Optimal = cost
 certified_low cost (verdict.OpenNodes used low) = min low cost
 certified_low cost (verdict.OpenTurns chamber ships turns low) = min low cost
+
+-- its low is at least that of the verdict: leaves by prices have the greatest cost that these show
+pub record ProvesVerdict (b : Book) (C : Certificate) : Type 0 where
+  pub low : ℕ
+  pub is : IsLow b.case.instance C low
+  pub high : certified_low (best_cost b) (verdict_of b) ≤ low
 
 -- Where a slot is Fresh, there are more marks than the book has used nodes.
 pub record HasMoreMarks (b : Book) (C : Certificate) : Type 0 where

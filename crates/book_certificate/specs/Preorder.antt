@@ -1,21 +1,28 @@
 -- The slots of a book in preorder of the tree that they make, and their marks.
-use Rattle.std.specs.Prelude.{ℕ, zero, suc, List, [], ◌∷◌, length}
+use Rattle.std.specs.Prelude.{ℕ, zero, suc, List, [], ◌∷◌, length, Some, None}
+use Rattle.std.specs.declared.option.Option.{Option}
 use Rattle.std.specs.List.{range_with_len, flat_map}
 use Rattle.book_rules.specs.declared.book.SlotState.{SlotState}
+use Rattle.book_rules.specs.declared.book.ShownLow.{ShownLow}
 use Rattle.book_rules.specs.declared.book.SlotState.TheVariants as slot
 use Rattle.certificate_rules.specs.declared.certificate.Mark.{Mark}
 use Rattle.certificate_rules.specs.declared.certificate.Mark.TheVariants as mark
 use Rattle.book_rules.specs.Book.{Book, slot_at}
 use Rattle.book_rules.specs.Family.{child_count}
 
--- the mark of a slot by its state; a slot that is open, held or parked is an open leaf
-abbrev pub mark_of : SlotState → Mark
-mark_of (slot.Split first) = mark.Split
-mark_of (slot.Closed why) = mark.Leaf why
-mark_of _ = mark.Open
+-- an open leaf, by the prices by which a cost was shown of its node
+abbrev pub open_mark : Option ShownLow → Mark
+open_mark None = mark.Open
+open_mark (Some low) = mark.OpenPriced low.prices
+
+-- the mark of a slot by its state and what is shown of it; a slot that is open, held or parked is an open leaf
+abbrev pub mark_of : Option ShownLow → SlotState → Mark
+mark_of shown (slot.Split first) = mark.Split
+mark_of shown (slot.Closed why) = mark.Leaf why
+mark_of shown _ = open_mark shown
 
 abbrev pub mark_at : Book → ℕ → Mark
-mark_at b id = mark_of (slot_at b id).state
+mark_at b id = mark_of (slot_at b id).shown (slot_at b id).state
 
 -- the children of a split slot in order, from slot `first` on
 abbrev pub children_from : Book → ℕ → ℕ → List ℕ

@@ -20,14 +20,14 @@ use std::alloc::Global;
 /// open leaves. It is well formed, and it stands for the instance of the book, so the checker never
 /// rejects it.
 ///
-/// Its low is the best cost where the book's verdict is `Optimal`, and else the less of the verdict's
-/// low and the best cost. It has at least as many marks as the book has slots, and where a slot is
+/// Its low is the best cost where the book's verdict is `Optimal`, and else at least the verdict's
+/// low. It has at least as many marks as the book has slots, and where a slot is
 /// Fresh, more marks than the book has used nodes. Refuses want of memory alone.
 pub fn open_certificate_of(alloc: Global, book: &Book) -> Result<Certificate, NoMemory>
     ensures certified { IfOk result (IsCertificateOf book.now) }
     ensures stands { IfOk result (Stands book.now.case.instance) }
     ensures formed { IfOk result (IsWellFormed book.now.case.instance) }
-    ensures low { IfOk result (λ certificate. IsLow book.now.case.instance certificate (certified_low (best_cost book.now) (verdict_of book.now))) }
+    ensures low { IfOk result (ProvesVerdict book.now) }
     ensures marks { IfOk result (λ certificate. length book.now.slots ≤ length certificate.tree) }
     ensures more { IfOk result (HasMoreMarks book.now) }
 {

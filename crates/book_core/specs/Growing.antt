@@ -1,5 +1,5 @@
 -- A book that has grown.
-use Rattle.std.specs.Prelude.{ℕ, suc, List, [], ◌∷◌, ◌++◌, nat_le, if◌then◌else◌}
+use Rattle.std.specs.Prelude.{ℕ, suc, List, [], ◌∷◌, ◌++◌, nat_le, if◌then◌else◌, None}
 use Rattle.lock_model.specs.declared.instance.Instance.{Instance}
 use Rattle.refute_rules.specs.Cuts.{Cut}
 use Rattle.book_rules.specs.declared.book.SlotState.TheVariants as slot
@@ -22,6 +22,7 @@ kept_prices b prices = noted (record b { prices = b.prices ++ prices ∷ [] }) e
 abbrev pub stored_child : ℕ → ℕ → ℕ → ℕ → StoredSlot
 stored_child cost parent number bound = record {
   bound = bound;
+  shown = None;
   state = if nat_le cost bound then (slot.Closed by.Bound) else slot.Fresh;
   parent = parent;
   number = number;

@@ -9,7 +9,7 @@ use Rattle.book_core.specs.declared.stored_slot.StoredSlot.{StoredSlot}
 use Rattle.closing_rules.specs.declared.grounds.Ground.TheVariants as by
 
 abbrev pub stored_at : List StoredSlot → ℕ → StoredSlot
-stored_at slots id = slice_index_or slots id (record { bound = 0; state = slot.Closed by.Bound; parent = 0; number = 0 })
+stored_at slots id = slice_index_or slots id (record { bound = 0; shown = None; state = slot.Closed by.Bound; parent = 0; number = 0 })
 
 -- no slot from first up to end is Fresh
 pub record HasNoFresh (slots : List StoredSlot) (first end : ℕ) : Type 0 where

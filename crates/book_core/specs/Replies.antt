@@ -41,12 +41,14 @@ refusal_told (refusing.NoPrices number) = Some (machine.NoPrices number)
 refusal_told refusing.NotShown = Some machine.NotShown
 refusal_told refusing.NotRoot = Some machine.NotRoot
 refusal_told refusing.NotSwept = Some machine.NotSwept
+refusal_told (refusing.Lower cost known) = Some (machine.Lower cost known)
 
 -- the machine's reply; none for want of memory
 abbrev pub told : Reply → Option (machine.Reply BrokenPlan)
 told (reply.Node id node) = Some (machine.Node id node)
 told (reply.Made count) = Some (machine.Made count)
 told reply.Closed = Some machine.Closed
+told reply.LowShown = Some machine.LowShown
 told (reply.Posted number) = Some (machine.Posted number)
 told (reply.Priced number) = Some (machine.Priced number)
 told reply.Parked = Some machine.Parked

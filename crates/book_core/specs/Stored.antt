@@ -12,7 +12,7 @@ node_after I [] s = root
 node_after I (n ∷ ns) s = child_node I (slice_index_or (n ∷ ns) s.parent root) s.number
 
 abbrev pub slot_with : StoredSlot → Node → Slot
-slot_with s node = record { parent = s.parent; number = s.number; node = node; bound = s.bound; state = s.state }
+slot_with s node = record { parent = s.parent; number = s.number; node = node; bound = s.bound; shown = s.shown; state = s.state }
 
 -- the slots, after the nodes of the slots before them
 abbrev pub slots_after : Instance → List Node → List StoredSlot → List Slot
@@ -27,4 +27,5 @@ pub record IsStoredAs (s : StoredSlot) (t : Slot) : Type 0 where
   pub parent : t.parent ≡ s.parent
   pub number : t.number ≡ s.number
   pub bound : t.bound ≡ s.bound
+  pub shown : t.shown ≡ s.shown
   pub state : t.state ≡ s.state

@@ -23,7 +23,7 @@ use std::marker::Model;
 /// one, the best plan, the number of nodes used, which of nine workers ended, and the history of
 /// accepted events.
 /// It keeps all that `specs/Keeps` names. Slots are numbered from 0, the root; they store no nodes,
-/// and take 40 bytes each. Of each cut the chamber and the ships lie in a row of their own too.
+/// and take 64 bytes each. Of each cut the chamber and the ships lie in a row of their own too.
 #[derive(Drop)]
 pub struct Book {
     pub(crate) case: Case,

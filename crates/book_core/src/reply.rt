@@ -12,6 +12,8 @@ pub enum Reply {
     Made(u32),
     /// The slot was closed.
     Closed,
+    /// The cost that was shown is kept.
+    LowShown,
     /// The cut was kept under this number.
     Posted(u64),
     /// The prices were kept under this number.
@@ -39,7 +41,8 @@ pub enum Refusal {
     Idle,
     /// Nothing is open or held.
     Done,
-    /// The slot isn't held, or, for closing, neither held nor parked.
+    /// The slot isn't held, or, for closing, neither held nor parked, or, for showing a cost, not open
+    /// either.
     NotHeld(u32),
     /// The slot's node holds all ships.
     Whole(u32),
@@ -71,6 +74,8 @@ pub enum Refusal {
     NotRoot,
     /// What was swept isn't of the instance and of the first cuts of the book; or nothing was swept.
     NotSwept,
+    /// The cost that was shown, which is at most what is known of the slot, and that, in minutes.
+    Lower(u64, u64),
 }
 
 /// The reply to a taking, but for the node of a slot that was given, which is in the worker's hand

@@ -30,6 +30,7 @@ pub(crate) fn stored_child(parent: u32, number: u8, bound: u64, cost: u64) -> St
     };
     StoredSlot {
         bound,
+        shown: None,
         state,
         parent,
         number,

@@ -1,5 +1,5 @@
 -- What a book holds.
-use Rattle.std.specs.Prelude.{ℕ, Bool, true, false, ◌||◌, nat_eq, nat_le, if◌then◌else◌}
+use Rattle.std.specs.Prelude.{ℕ, max, Bool, true, false, ◌||◌, nat_eq, nat_le, if◌then◌else◌, Some, None}
 use Rattle.std.specs.Prelude.{List, [], ◌∷◌, replicate, slice_index_or, slice_get, position}
 use Rattle.std.specs.List.{list_any}
 use Rattle.std.specs.declared.option.Option.{Option}
@@ -13,6 +13,7 @@ use Rattle.lock_rules.specs.Node.{Node, root, line_at}
 use Rattle.lock_rules.specs.Bound.{bound_of}
 use Rattle.refute_rules.specs.Cuts.{Cut}
 use Rattle.book_rules.specs.declared.book.SlotState.{SlotState}
+use Rattle.book_rules.specs.declared.book.ShownLow.{ShownLow}
 use Rattle.book_rules.specs.declared.book.Entry.{Entry}
 use Rattle.book_rules.specs.declared.book.SlotState.TheVariants as slot
 use Rattle.closing_rules.specs.declared.grounds.Ground.TheVariants as by
@@ -23,12 +24,13 @@ pub record Case : Type 0 where
   pub nodes : ℕ
   pub turns : ℕ
 
--- A slot holds a node, the child of this number of the node of its parent; the root's are 0.
+-- A slot holds a node, the child of this number of the node of its parent; the root's are 0. Of its node a cost may have been shown.
 pub record Slot : Type 0 where
   pub parent : ℕ
   pub number : ℕ
   pub node : Node
   pub bound : ℕ
+  pub shown : Option ShownLow
   pub state : SlotState
 
 -- `ended` tells for each of nine workers whether it has released; the plans are those that replaced the opening one.
@@ -45,7 +47,7 @@ pub record Book : Type 0 where
   pub history : List Entry
 
 abbrev pub no_slot : Slot
-no_slot = record { parent = 0; number = 0; node = root; bound = 0; state = slot.Closed by.Bound }
+no_slot = record { parent = 0; number = 0; node = root; bound = 0; shown = None; state = slot.Closed by.Bound }
 
 abbrev pub slot_at : Book → ℕ → Slot
 slot_at b id = slice_index_or b.slots id no_slot
@@ -58,15 +60,24 @@ best_cost b = cost_of b.case.instance b.best
 abbrev pub bound_at : Instance → Node → ℕ
 bound_at I node = bound_of I node.depth node.lines
 
--- a new slot: closed where its bound is at least this cost
+-- a new slot: closed where its bound is at least this cost; nothing is shown of it
 abbrev pub new_slot : Instance → ℕ → ℕ → ℕ → Node → Slot
 new_slot I cost parent number node = record {
   parent = parent;
   number = number;
   node = node;
   bound = bound_at I node;
+  shown = None;
   state = if nat_le cost (bound_at I node) then (slot.Closed by.Bound) else slot.Fresh;
 }
+
+-- what is known of a slot's node: no plan under it costs less than its bound, or than what was shown
+abbrev pub low_by : ℕ → Option ShownLow → ℕ
+low_by bound None = bound
+low_by bound (Some low) = max bound low.cost
+
+abbrev pub slot_low : Slot → ℕ
+slot_low s = low_by s.bound s.shown
 
 -- the book of a case and a plan, with the root alone
 abbrev pub opening_book : Case → Plan → Book

@@ -13,6 +13,7 @@ use Rattle.lock_rules.specs.Trace.{IsUnder}
 use Rattle.lock_rules.specs.Bound.{bound_of}
 use Rattle.lock_rules.specs.Cheap.{cheap_nodes}
 use Rattle.lock_rules.specs.Size.{node_limit, turn_limit}
+use Rattle.price_rules.specs.Prices.{PlainCut, CutHolds, Reaches}
 use Rattle.refute_rules.specs.Spots.{IsSpent}
 use Rattle.book_rules.specs.declared.book.SlotState.{SlotState}
 use Rattle.book_rules.specs.declared.book.SlotState.TheVariants as slot
@@ -61,12 +62,20 @@ pub record IsOptimal (I : Instance) (limit : ℕ) (P : Plan) : Type 0 where
   pub cheapest : IsCheapest I P
   pub cost : cost_of I P ≤ limit
 
--- this is the bound of a node and below the plan's cost, and no legal plan costs less
+-- above its bound, the node of depth k reaches this cost by some prices and cuts that hold
+pub record IsShownAbove (I : Instance) (k : ℕ) (lines : List (List Group)) (low : ℕ) : Type 0 where
+  pub above : bound_of I k lines < low
+  pub prices : List ℕ
+  pub cuts : List PlainCut
+  pub hold : All CutHolds cuts
+  pub reached : Reaches I cuts k lines prices low
+
+-- this is the bound of a node, or shown of it, and below the plan's cost, and no legal plan costs less
 pub record IsOpenLow (I : Instance) (P : Plan) (low : ℕ) : Type 0 where
   pub depth : ℕ
   pub lines : List (List Group)
   pub node : IsNode I depth lines
-  pub bound : low ≡ bound_of I depth lines
+  pub known : (low ≡ bound_of I depth lines) ⊎ IsShownAbove I depth lines low
   pub below : low < cost_of I P
   pub least : (Q : Plan) → IsLegal I Q → low ≤ cost_of I Q
 

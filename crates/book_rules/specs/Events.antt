@@ -10,7 +10,7 @@ use Rattle.closing_rules.specs.ListedPrices.{ArePrices}
 use Rattle.lock_rules.specs.Node.{Node as TreeNode}
 use Rattle.book_rules.specs.Shown.{Shown, IsShown, Swept, IsSweptCost}
 
--- The events; `park` names slot, chamber and place, and carries the deck and the turns of the lent value; `close_price` and
+-- The events; `park` names slot, chamber and place, and carries the deck and the turns of the lent value; `close_price`, `show_low` and
 -- `close_swept` name slot and prices, and carry what was shown or swept.
 pub data Event : Type 0 where
   take : ℕ → Event
@@ -20,6 +20,7 @@ pub data Event : Type 0 where
   post_prices : List ℕ → Event
   close_price : ℕ → ℕ → Shown → Event
   close_swept : ℕ → ℕ → Swept → Event
+  show_low : ℕ → ℕ → Shown → Event
   park : ℕ → ℕ → ℕ → Deck → ℕ → Event
   replace : Plan → Event
   release : ℕ → Event
@@ -29,6 +30,7 @@ pub data Reply (Break : Type 0) : Type 0 where
   Node : ℕ → TreeNode → Reply Break
   Made : ℕ → Reply Break
   Closed : Reply Break
+  LowShown : Reply Break
   Posted : ℕ → Reply Break
   Priced : ℕ → Reply Break
   Parked : Reply Break
@@ -53,12 +55,14 @@ pub data Reply (Break : Type 0) : Type 0 where
   NotShown : Reply Break
   NotRoot : Reply Break
   NotSwept : Reply Break
+  Lower : ℕ → ℕ → Reply Break
 
--- the first eight accept their event, the others refuse it
+-- the first nine accept their event, the others refuse it
 abbrev pub is_acceptance : {Break : Type 0} → Reply Break → Bool
 is_acceptance (Node id node) = true
 is_acceptance (Made count) = true
 is_acceptance Closed = true
+is_acceptance LowShown = true
 is_acceptance (Posted number) = true
 is_acceptance (Priced number) = true
 is_acceptance Parked = true
@@ -76,4 +80,5 @@ IsOwed (post cut) = IsCut cut
 IsOwed (post_prices prices) = ArePrices prices
 IsOwed (close_price id number shown) = IsShown shown
 IsOwed (close_swept id number swept) = IsSweptCost swept
+IsOwed (show_low id number shown) = IsShown shown
 IsOwed _ = ⊤

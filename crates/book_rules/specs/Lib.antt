@@ -13,6 +13,7 @@ pub mod Budget
 pub mod Workers
 pub mod History
 pub mod States
+pub mod Lows
 pub mod Family
 pub mod Cheap
 pub mod Waiting

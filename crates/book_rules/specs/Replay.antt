@@ -10,18 +10,18 @@ use Rattle.closing_rules.specs.declared.grounds.Ground.TheVariants as by
 use Rattle.book_rules.specs.declared.book.Entry.{Entry}
 use Rattle.book_rules.specs.declared.book.Entry.TheVariants as entry
 use Rattle.book_rules.specs.Book.{Case, Book, slot_at, best_cost, ships_at, opening_book}
-use Rattle.book_rules.specs.Events.{Event, take, split, close, post, post_prices, close_price, close_swept, park, replace, release}
+use Rattle.book_rules.specs.Events.{Event, take, split, close, post, post_prices, close_price, close_swept, show_low, park, replace, release}
 use Rattle.book_rules.specs.Shown.{Shown, Swept, chamber_cut}
 use Rattle.book_rules.specs.Step.{step}
 
--- what the book itself says of slot id and the prices of a number: its own cuts and its best cost
-abbrev pub own_shown : Book → ℕ → ℕ → Shown
-own_shown b id number = record {
+-- what the book itself says of slot id, the prices of a number and a cost: by its own cuts
+abbrev pub own_shown : Book → ℕ → ℕ → ℕ → Shown
+own_shown b id number cost = record {
   instance = b.case.instance;
   node = (slot_at b id).node;
   prices = slice_index_or b.prices number [];
   cuts = map chamber_cut b.cuts;
-  cost = best_cost b;
+  cost = cost;
 }
 
 -- what the book itself says is swept: its best cost, by its own cuts
@@ -30,18 +30,20 @@ own_swept b = record { instance = b.case.instance; cuts = map chamber_cut b.cuts
 
 -- the event that closes slot id so
 abbrev pub closing_of : Book → ℕ → Ground → Event
-closing_of b id (by.Price number) = close_price id number (own_shown b id number)
+closing_of b id (by.Price number) = close_price id number (own_shown b id number (best_cost b))
 closing_of b id (by.Swept number) = close_swept id number (own_swept b)
 closing_of b id why = close id why
 
 -- The book after the entries; a post takes the next cut or prices, a replace the next plan, a park the group's deck and the case's
--- turns, and a closing by prices or by a sweep what the book itself says.
+-- turns, and a closing by prices or by a sweep, or a cost that is shown, what the book itself says.
 abbrev pub replay_from :
     {Break : Type 0} → (Instance → Plan → Option Break) → Book → List Entry → List Cut → List Plan → List (List ℕ) → Book
 replay_from broken b [] cuts plans prices = b
 replay_from broken b (entry.Take w ∷ es) cuts plans prices = replay_from broken (step broken b (take w)).0 es cuts plans prices
 replay_from broken b (entry.Split id ∷ es) cuts plans prices = replay_from broken (step broken b (split id)).0 es cuts plans prices
 replay_from broken b (entry.Close id why ∷ es) cuts plans prices = replay_from broken (step broken b (closing_of b id why)).0 es cuts plans prices
+replay_from broken b (entry.ShowLow id low ∷ es) cuts plans prices =
+    replay_from broken (step broken b (show_low id low.prices (own_shown b id low.prices low.cost))).0 es cuts plans prices
 replay_from broken b (entry.Post ∷ es) [] plans prices = b
 replay_from broken b (entry.Post ∷ es) (cut ∷ cuts) plans prices = replay_from broken (step broken b (post cut)).0 es cuts plans prices
 replay_from broken b (entry.Prices ∷ es) cuts plans [] = b

@@ -13,7 +13,7 @@ abbrev pub count_false : List Bool → ℕ
 count_false [] = 0
 count_false (e ∷ es) = (if e then 0 else 1) + count_false es
 
--- The entries of the history that may still come, those of postings and replace left out: three for each node of the budget that
+-- The entries of the history that may still come, those of postings, replace and shown costs left out: three for each node of the budget that
 -- isn't used and each Back slot, two for each Held slot, one for each Parked slot, two for each worker that hasn't ended.
 abbrev pub room_of : Book → ℕ
 room_of b =

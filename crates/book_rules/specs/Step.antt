@@ -19,14 +19,15 @@ use Rattle.closing_rules.specs.declared.grounds.Ground.{Ground}
 use Rattle.closing_rules.specs.declared.grounds.Ground.TheVariants as by
 use Rattle.book_rules.specs.declared.book.SlotState.{SlotState}
 use Rattle.book_rules.specs.declared.book.Entry.{Entry}
+use Rattle.book_rules.specs.declared.book.ShownLow.{ShownLow}
 use Rattle.book_rules.specs.Same.{same_instance, same_node}
 use Rattle.book_rules.specs.Shown.{Shown, Swept, are_first_cuts}
 use Rattle.book_rules.specs.Tests.{same_deck, has_clash, is_node_hit, is_own_cut}
-use Rattle.book_rules.specs.Book.{Slot, Book, slot_at, best_cost, new_slot, is_fresh, is_back, is_held, is_held_by, is_parked, has_slot, first_slot, group_at}
-use Rattle.book_rules.specs.Events.{Event, take, split, close, post, post_prices, close_price, close_swept, park, replace, release}
-use Rattle.book_rules.specs.Events.{Reply, Node, Made, Closed, Posted, Priced, Parked, Replaced, Released}
+use Rattle.book_rules.specs.Book.{Slot, Book, slot_at, slot_low, best_cost, new_slot, is_fresh, is_back, is_held, is_held_by, is_parked, is_live, has_slot, first_slot, group_at}
+use Rattle.book_rules.specs.Events.{Event, take, split, close, post, post_prices, close_price, close_swept, show_low, park, replace, release}
+use Rattle.book_rules.specs.Events.{Reply, Node, Made, Closed, LowShown, Posted, Priced, Parked, Replaced, Released}
 use Rattle.book_rules.specs.Events.{Ended, Holds, NodesSpent, Idle, Done, NotHeld, Whole, Cheaper, NoHit, OtherDeck, NotLegal, NotCheaper}
-use Rattle.book_rules.specs.Events.{Absent, Clashes, OtherPrices, NoPrices, NotShown, NotRoot, NotSwept}
+use Rattle.book_rules.specs.Events.{Absent, Clashes, OtherPrices, NoPrices, NotShown, NotRoot, NotSwept, Lower}
 use Rattle.book_rules.specs.NextSlot.{next_fresh}
 use Rattle.book_rules.specs.declared.book.SlotState.TheVariants as slot
 use Rattle.book_rules.specs.declared.book.Entry.TheVariants as entry
@@ -160,6 +161,30 @@ close_swept_step b id number swept =
     if not (may_close b id) then (b, NotHeld id)
     else close_unless b id (by.Swept number) (sweep_refusal b id number swept (slice_get b.prices number))
 
+-- why the cost isn't shown of slot id by the prices of this number, where it is live
+abbrev pub low_refusal : {Break : Type 0} → Book → ℕ → ℕ → Shown → Option (List ℕ) → Option (Reply Break)
+low_refusal b id number shown None = Some (NoPrices number)
+low_refusal b id number shown (Some prices) =
+    if not (is_shown b id prices shown) then Some NotShown
+    else if nat_le shown.cost (slot_low (slot_at b id)) then Some (Lower shown.cost (slot_low (slot_at b id)))
+    else None
+
+-- this is shown of slot id
+abbrev pub with_low : Book → ℕ → ShownLow → Book
+with_low b id low = record b { slots = slice_set b.slots id (record (slot_at b id) { shown = Some low }) }
+
+abbrev pub low_shown : Book → ℕ → ShownLow → Book
+low_shown b id low = noted (with_low b id low) (entry.ShowLow id low)
+
+abbrev pub show_unless : {Break : Type 0} → Book → ℕ → ShownLow → Option (Reply Break) → Book × Reply Break
+show_unless b id low (Some refusal) = (b, refusal)
+show_unless b id low None = (low_shown b id low, LowShown)
+
+abbrev pub show_low_step : {Break : Type 0} → Book → ℕ → ℕ → Shown → Book × Reply Break
+show_low_step b id number shown =
+    if not (is_live (slot_at b id).state) then (b, NotHeld id)
+    else show_unless b id (record { prices = number; cost = shown.cost }) (low_refusal b id number shown (slice_get b.prices number))
+
 abbrev pub priced : {Break : Type 0} → Book → List ℕ → Book × Reply Break
 priced b prices = (noted (record b { prices = b.prices ++ prices ∷ [] }) entry.Prices, Priced (length b.prices))
 
@@ -224,6 +249,7 @@ step first_break b (post cut) = post_step b cut
 step first_break b (post_prices prices) = post_prices_step b prices
 step first_break b (close_price id number shown) = close_price_step b id number shown
 step first_break b (close_swept id number swept) = close_swept_step b id number swept
+step first_break b (show_low id number shown) = show_low_step b id number shown
 step first_break b (park id c p deck turns) = park_step b id c p deck turns
 step first_break b (replace plan) = replace_by b plan (first_break b.case.instance plan)
 step first_break b (release w) = release_step b w

@@ -1,17 +1,18 @@
 -- What a book says of its best plan.
-use Rattle.std.specs.Prelude.{ℕ, ◌||◌, map, filter, if◌then◌else◌, Some, None}
+use Rattle.std.specs.Prelude.{ℕ, ◌-◌, min, ◌||◌, map, filter, if◌then◌else◌, Some, None}
 use Rattle.std.specs.declared.option.Option.{Option}
 use Rattle.lock_model.specs.declared.verdict.Verdict.{Verdict}
 use Rattle.lock_rules.specs.Bound.{least_number}
 use Rattle.book_rules.specs.declared.book.SlotState.{SlotState}
-use Rattle.book_rules.specs.Book.{Slot, Book, slot_at, is_fresh, is_back, is_held, is_parked, is_live, has_slot, first_slot, ships_at}
+use Rattle.book_rules.specs.Book.{Slot, Book, slot_at, slot_low, best_cost, is_fresh, is_back, is_held, is_parked, is_live, has_slot, first_slot, ships_at}
 use Rattle.lock_rules.specs.Node.{Node}
 use Rattle.lock_model.specs.declared.verdict.Verdict.TheVariants as verdict
 use Rattle.book_rules.specs.declared.book.SlotState.TheVariants as slot
 
--- the least bound of the open, held and parked slots
+-- The least that is known of the open, held and parked slots, and less than the best cost: while one of them is left, the best plan
+-- isn't proved cheapest.
 abbrev pub low_of : Book → ℕ
-low_of b = least_number (map (λ (s : Slot). s.bound) (filter (λ (s : Slot). is_live s.state) b.slots))
+low_of b = min (least_number (map slot_low (filter (λ (s : Slot). is_live s.state) b.slots))) (best_cost b - 1)
 
 -- what a parked slot says
 abbrev pub parked_verdict : Book → Node → SlotState → Verdict

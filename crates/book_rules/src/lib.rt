@@ -6,7 +6,7 @@
 //!   refused, the node is as its ground asks (`ClosingLemmas`, `ShownLemmas`).
 //! - What every book keeps: `specs/Cover` (every cheaper plan is under a live slot), and
 //!   `specs/Parts`, which joins `Family` (the slots make a tree), `States` (each state is true of its
-//!   node), `Workers`, `Budget`, `Room` and `History` (entries that may still come), `Cheap` (cheap
+//!   node), `Lows` (what is shown of a slot is reached by its node), `Workers`, `Budget`, `Room` and `History` (entries that may still come), `Cheap` (cheap
 //!   nodes are counted) and `Waiting` (the slots that are taken next).
 //! - How a search ends: `specs/Ends` (what each verdict means, of an instance, a plan and numbers).
 //!
@@ -24,4 +24,4 @@
 
 mod book;
 
-pub use book::{Entry, SlotState};
+pub use book::{Entry, ShownLow, SlotState};

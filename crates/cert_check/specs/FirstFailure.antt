@@ -11,7 +11,7 @@ use Rattle.certificate_rules.specs.declared.certificate.Mark.{Mark}
 use Rattle.closing_rules.specs.ProvedCuts.{CertCut, IsProved}
 use Rattle.closing_rules.specs.ListedPrices.{AreShapedPrices}
 use Rattle.certificate_rules.specs.Certificates.{Certificate, EndsNode, IsMarkTree, Stands}
-use Rattle.certificate_rules.specs.Low.{HasOpen}
+use Rattle.certificate_rules.specs.Low.{HasOpen, AreLeafLows}
 use Rattle.certificate_rules.specs.Failures.{MarksFail, FailsAt, Fails}
 use Rattle.cert_check.specs.declared.claim.Claim.{Claim}
 
@@ -43,12 +43,12 @@ pub record FailAtMark (I : Instance) (cost : ℕ) (cuts : List CertCut) (prices 
   pub place : p ≡ length marks - length stuck
   pub fails : MarksFail I (EndsNode I cost cuts prices) marks stuck r
 
--- the marks are one tree of the root, and `low` is the least of the cost and the bounds of its open leaves
+-- the marks are one tree of the root, and `low` is the least of the cost and the lows of its open leaves
 pub record IsLowOfMarks (I : Instance) (cost : ℕ) (cuts : List CertCut) (prices : List (List ℕ)) (marks : List Mark) (low : ℕ) : Type 0 where
   pub tree : IsMarkTree I (EndsNode I cost cuts prices) (length I.ships) 0 root_lines marks []
-  pub bounds : List ℕ
-  pub leaves : HasOpen I (length I.ships) 0 root_lines marks [] bounds
-  pub least : low ≡ least_number (cost ∷ bounds)
+  pub lows : List ℕ
+  pub leaves : HasOpen I (AreLeafLows I cost cuts prices) (length I.ships) 0 root_lines marks [] lows
+  pub least : low ≡ least_number (cost ∷ lows)
 
 -- the same of marks that are held against a claim
 abbrev pub FailsBy : Claim → List Mark → ℕ → Reason → Type 0

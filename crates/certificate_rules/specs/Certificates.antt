@@ -35,12 +35,13 @@ pub record IsCutBy (I : Instance) (cuts : List CertCut) (number : ℕ) (lines : 
 abbrev pub cuts_in : Instance → List CertCut → List PlainCut
 cuts_in I cuts = map (λ (c : CertCut). cut_in I c.chamber c.ships) cuts
 
--- the mark ends a node of depth k against this cost: it closes it, or leaves it open
+-- the mark ends a node of depth k against this cost: it closes it, or leaves it open, by prices that are there where it names some
 abbrev pub EndsNode : Instance → ℕ → List CertCut → List (List ℕ) → ℕ → List (List Group) → Mark → Type 0
 EndsNode I cost cuts prices k lines mark.Split = ⊥
 EndsNode I cost cuts prices k lines (mark.Leaf why) =
     IsClosedBy I (IsCutBy I cuts) (IsPricedBy I (cuts_in I cuts) prices) (IsSweptBy I (cuts_in I cuts) prices) cost (bound_of I k lines) k lines why
 EndsNode I cost cuts prices k lines mark.Open = ⊤
+EndsNode I cost cuts prices k lines (mark.OpenPriced number) = number < length prices
 
 -- the marks begin with one that ends the node, and the rest follows
 abbrev pub IsEndLeaf : (ℕ → List (List Group) → Mark → Type 0) → ℕ → List (List Group) → List Mark → List Mark → Type 0
@@ -71,6 +72,7 @@ abbrev pub IsNoOpenLeaf : Mark → Type 0
 IsNoOpenLeaf mark.Split = ⊤
 IsNoOpenLeaf (mark.Leaf why) = ⊤
 IsNoOpenLeaf mark.Open = ⊥
+IsNoOpenLeaf (mark.OpenPriced number) = ⊥
 
 abbrev pub HasNoOpenLeaf : List Mark → Type 0
 HasNoOpenLeaf [] = ⊤

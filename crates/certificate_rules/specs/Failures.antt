@@ -27,11 +27,13 @@ ground_reason (by.Cut number) = reason.CutMisses
 ground_reason (by.Price number) = reason.PriceLow
 ground_reason (by.Swept number) = reason.SweptWrong
 
--- why a mark that should end a node doesn't; a split mark doesn't where no ship is lacking, and an open leaf always does
+-- why a mark that should end a node doesn't; a split mark doesn't where no ship is lacking, an open leaf without prices always does, and
+-- of one whose prices aren't there the reason is that of a root that isn't swept
 abbrev pub reason_of : Mark → Reason
 reason_of mark.Split = reason.SplitFull
 reason_of (mark.Leaf why) = ground_reason why
 reason_of mark.Open = reason.SplitFull
+reason_of (mark.OpenPriced number) = reason.SweptWrong
 
 -- reading one tree after the other from the marks on, it ends at `stuck` for a reason
 abbrev pub FailInOrder :

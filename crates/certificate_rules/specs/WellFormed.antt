@@ -62,6 +62,7 @@ abbrev pub IsFormedMark : Numbering → Mark → Type 0
 IsFormedMark numbering mark.Split = ⊤
 IsFormedMark numbering (mark.Leaf why) = IsFormedGround numbering why
 IsFormedMark numbering mark.Open = ⊤
+IsFormedMark numbering (mark.OpenPriced number) = number < 2 ^ 63
 
 -- what a certificate of an instance keeps that may be written down
 pub record IsWellFormed (I : Instance) (C : Certificate) : Type 0 where

@@ -2,12 +2,14 @@
 
 use closing_rules::Ground;
 
-/// What a certificate says of a node: it is split, closed on a ground, or left open.
+/// What a certificate says of a node: it is split, closed on a ground, or left open, where the prices of
+/// a number may show what a plan under it costs at the least.
 #[derive(Clone, Copy, PartialEq, Eq)]
 pub enum Mark {
     Split,
     Leaf(Ground),
     Open,
+    OpenPriced(u64),
 }
 
 /// The place at which a certificate fails.

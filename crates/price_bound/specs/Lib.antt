@@ -3,3 +3,4 @@ pub mod KeptGroups
 pub mod Total
 pub mod Asks
 pub mod Asked
+pub mod Greatest

@@ -6,6 +6,7 @@ ghost use Rattle.price_terms.specs.Claim.{IsReached};
 ghost use Rattle.price_table.specs.Values.{most_worth};
 ghost use Rattle.price_bound.specs.Asked.{node_asked, claimed};
 ghost use Rattle.price_bound.specs.Asks.{chamber_ask};
+ghost use Rattle.price_bound.specs.Greatest.{IsGreatestReached};
 ghost use Rattle.price_bound.specs.Keeping.{IsFound};
 ghost use Rattle.price_bound.specs.Total.{HasNoLooseLine, IsAdded, IsNodeSum, AreLeastLines, AreLinesFound};
 
@@ -165,5 +166,26 @@ pub fn reaches(
     match price_sum(kept, asked, limits)? {
         None => Ok(true),
         Some(sum) => Ok(is_high(sum, cost)),
+    }
+}
+
+// The greatest cost, in minutes, that a sum in hundredths of a minute reaches.
+fn cost_of(sum: i64) -> u64 {
+    (sum.max(0) as u64).div_ceil(100)
+}
+
+/// The greatest of the costs up to `most`, in minutes, that a node reaches by prices and cuts; 0 where
+/// it reaches none of them. Refuses as `reaches` does.
+pub fn greatest_cost(
+    kept: &mut KeptLines,
+    asked: &PricedNode,
+    most: u64,
+    limits: Limits,
+) -> Result<u64, PriceError>
+    ensures { IfOk result (IsGreatestReached (claimed asked.now) most) }
+{
+    match price_sum(kept, asked, limits)? {
+        None => Ok(most),
+        Some(sum) => Ok(cost_of(sum).min(most)),
     }
 }

@@ -1,11 +1,13 @@
 //! Nodes that are shown to reach a cost.
-ghost use Rattle.std.specs.Prelude.{◌≡◌, ◌↔◌, IfOk, IfSome, IsSome};
+ghost use Rattle.std.specs.Prelude.{◌≡◌, ◌≤◌, ◌↔◌, IfOk, IfSome, IsSome};
+ghost use Rattle.master_branch.specs.Node.{IsNodeOf};
 ghost use Rattle.price_terms.specs.Claim.{IsReached};
 ghost use Rattle.price_bound.specs.Asked.{claimed};
 
 use crate::keeping::KeptLines;
 use crate::priced_node::PricedNode;
 use crate::reaching::reaches;
+use master_branch::Node;
 use price_terms::{Limits, PriceError, Shown};
 
 /// Shows that a node reaches a cost, in minutes, by prices and cuts: `None` exactly where it doesn't.
@@ -24,4 +26,15 @@ pub fn show<'a>(
     } else {
         Ok(None)
     }
+}
+
+/// What was shown of the root holds of each node of the instance, and of each lesser cost, in minutes: a
+/// node's loose lines are loose lines of the root too, and its own ships pay the same in both.
+pub fn shown_below<'a>(shown: &'a Shown<'_>, node: &'a Node, cost: u64) -> Shown<'a>
+    requires root { shown.now.node.depth ≡ 0 }
+    requires node { IsNodeOf shown.now.instance node.now }
+    requires no_more { cost ≤ shown.now.cost }
+    ensures { result ≡ record shown.now { node = node.now; cost = cost } }
+{
+    Shown::new(shown.instance(), node, shown.prices(), shown.cuts(), cost)
 }

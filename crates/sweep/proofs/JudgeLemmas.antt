@@ -1,12 +1,12 @@
 -- One ship, one group and one chamber more, as a plan is judged.
-use Rattle.std.proofs.Common.{◌≡◌, ◌≢◌, ℕ, ◌+◌, ◌-◌, ◌<◌, ◌≤◌, inl, inr, List, [], ◌∷◌, length, map, drop, All, Vec, cond, refl, sym, ap, ◌∙◌, subst, arith, get_or, slice_index_or, sum_by}
+use Rattle.std.proofs.Common.{◌≡◌, ◌≢◌, ℕ, ◌+◌, ◌-◌, ◌<◌, inl, inr, List, [], ◌∷◌, length, drop, All, Vec, cond, refl, sym, ap, ◌∙◌, subst, arith, get_or, slice_index_or, sum_by}
 use Rattle.std.proofs.lemmas.Bool.Decides.{eqb_tells}
-use Rattle.std.proofs.lemmas.List.{drop_more, get_or-map, get_or_default}
-use Rattle.lock_model.specs.Fleet.{ship_at, chamber_at}
+use Rattle.std.proofs.lemmas.List.{drop_more, get_or-map}
+use Rattle.lock_model.specs.Fleet.{ship_at}
 use Rattle.lock_model.specs.declared.instance.Instance.{Instance}
 use Rattle.lock_model.specs.declared.group.Group.{Group}
 use Rattle.lock_rules.specs.Plan.{times_in}
-use Rattle.lock_rules.specs.Node.{times_on, IsNodeGroup}
+use Rattle.lock_rules.specs.Node.{times_on}
 use Rattle.lock_rules.specs.Bound.{flow_of, line_flow}
 use Rattle.price_rules.specs.Prices.{IsUncut}
 use Rattle.price_groups.specs.Asks.{LineAsk}

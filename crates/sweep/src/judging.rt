@@ -1,5 +1,5 @@
 //! The judge of lines that a sweep has found: whether they are an uncut plan, and what it costs.
-ghost use Rattle.std.specs.Prelude.{ℕ, ◌≡◌, ◌<◌, ◌≤◌, length, All, IsTrue, IfOk, OnOk};
+ghost use Rattle.std.specs.Prelude.{◌≡◌, ◌<◌, length, All, IsTrue, IfOk, OnOk};
 ghost use Rattle.lock_rules.specs.Plan.{times_in};
 ghost use Rattle.lock_rules.specs.Node.{times_on};
 ghost use Rattle.lock_rules.specs.Bound.{line_flow};

@@ -1,17 +1,20 @@
 //! Labels of the same ships, found by these.
 
-use crate::label::Label;
+use crate::label::{Label, are_no_later};
+use crate::ready_times::ReadyTimes;
 use crate::ship_set::ShipSet;
+use lock_model::CHAMBERS;
 use price_terms::{PriceError, append};
 use std::alloc::Global;
 
 // How many places the table begins with.
 const FIRST_PLACES: usize = 1024;
 
-/// A label, and its number among all.
+/// A label of a front's ships: its minutes and its flow time, and its number among all.
 #[derive(Clone, Copy)]
 struct Entry {
-    label: Label,
+    ready: [ReadyTimes; CHAMBERS],
+    flow: u32,
     number: u32,
 }
 
@@ -55,11 +58,25 @@ fn put_at(list: &mut [Option<u32>], place: usize, item: Option<u32>) {
     }
 }
 
+impl Entry {
+    #[inline(always)]
+    // Whether its label is no worse than one of the same ships.
+    fn is_no_worse(&self, label: &Label) -> bool {
+        self.flow <= label.flow && are_no_later(&self.ready, &label.ready)
+    }
+
+    #[inline(always)]
+    // Whether it is no better.
+    fn is_no_better(&self, label: &Label) -> bool {
+        label.flow <= self.flow && are_no_later(&label.ready, &self.ready)
+    }
+}
+
 impl Front {
     // The number of a label that is no worse.
     fn dominating(&self, label: &Label) -> Option<u32> {
         for entry in &self.entries {
-            if entry.label.is_no_worse(label) {
+            if entry.is_no_worse(label) {
                 return Some(entry.number);
             }
         }
@@ -69,7 +86,7 @@ impl Front {
     // The place of a label that is no better.
     fn outdone(&self, label: &Label) -> Option<usize> {
         for place in 0..self.entries.len() {
-            if label.is_no_worse(&self.entries[place].label) {
+            if self.entries[place].is_no_better(label) {
                 return Some(place);
             }
         }
@@ -194,7 +211,15 @@ impl Fronts {
     ) -> Result<(), PriceError> {
         if front < self.items.len() {
             let own = &mut self.items[front];
-            return append(&mut own.entries, Entry { label, number });
+            let Label { ready, flow, .. } = label;
+            return append(
+                &mut own.entries,
+                Entry {
+                    ready,
+                    flow,
+                    number,
+                },
+            );
         }
         Ok(())
     }

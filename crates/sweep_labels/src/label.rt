@@ -24,8 +24,8 @@ pub struct KeptLabel {
     pub start: u32,
 }
 
-// Whether chambers are ready no later than others.
-fn are_no_later(one: &[ReadyTimes; CHAMBERS], other: &[ReadyTimes; CHAMBERS]) -> bool
+/// Whether chambers are ready no later than others.
+pub(crate) fn are_no_later(one: &[ReadyTimes; CHAMBERS], other: &[ReadyTimes; CHAMBERS]) -> bool
     ensures { IsTrue result → AreAllNoLater CHAMBERS one.now other.now }
 {
     for chamber in 0..CHAMBERS {

@@ -1,4 +1,4 @@
-use Rattle.std.proofs.Common.{◌<◌, length, ap, ◌∙◌, subst, sym, arith}
+use Rattle.std.proofs.Common.{◌<◌, length, ap, subst, arith}
 use Rattle.sweep.specs.Judging.{lines_in, IsUncutLine}
 use Rattle.sweep.proofs.JudgeLemmas.{line-read, lines-more}
 use Rattle.sweep.proofs.judging.flow_over.Goals as goal

@@ -1,4 +1,4 @@
-use Rattle.std.proofs.Common.{rules, All, sym, subst}
+use Rattle.std.proofs.Common.{rules, All, subst}
 use Rattle.price_groups.specs.Sparing.{IsSpared}
 use Rattle.sweep.specs.Judging.{IsOwnGroup}
 use Rattle.sweep.proofs.JudgeLemmas.{own-uncut}

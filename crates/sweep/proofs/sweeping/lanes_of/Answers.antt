@@ -1,4 +1,4 @@
-use Rattle.std.proofs.Common.{◌≡◌, ◌+◌, ◌<◌, length, sym, ap, ◌∙◌, subst, arith}
+use Rattle.std.proofs.Common.{◌≡◌, ◌+◌, ◌<◌, length, sym, ◌∙◌, subst, arith}
 use Rattle.price_terms.specs.Cuts.{plain_cuts}
 use Rattle.sweep.specs.Bounds.{IsLaneOf, AreLanesOf}
 use Rattle.sweep.specs.Ends.{IsCase}
