@@ -13,13 +13,11 @@ use Rattle.refute_rules.specs.declared.refutation.Refutation.TheVariants as refu
 use Rattle.closing_rules.specs.ProvedCuts.{CertCut}
 use Rattle.closing_rules.specs.ListedPrices.{AreShapedPrices, cut_in}
 use Rattle.lock_model.specs.Instance.{IsInstance}
-use Rattle.lock_model.specs.declared.plan.Plan.{Plan}
 use Rattle.lock_rules.specs.Node.{root_lines, line_at}
 use Rattle.lock_rules.proofs.RowInstances.{chambers-narrow, ships-narrow, narrow, chambers-side_by_side, ships-side_by_side, side_by_side}
 use Rattle.certificate_rules.specs.declared.certificate.Mark.TheVariants as mark
 use Rattle.certificate_rules.specs.declared.certificate.Reason.TheVariants as reason
 use Rattle.certificate_rules.specs.Certificates.{IsMarkTree, cuts_in, EndsNode}
-use Rattle.certificate_rules.specs.Low.{IsLow}
 use Rattle.certificate_rules.specs.Failures.{PricesFail, MarksFail}
 use Rattle.closing_rules.specs.declared.grounds.Ground.TheVariants as by
 
@@ -62,50 +60,12 @@ row-full ok = inl (inr (mark.Split ∷ mark.Split ∷ mark.Leaf by.Bound ∷ mar
 row-empty : (ok : IsInstance chambers-narrow ships-narrow) → MarksFail (narrow ok) (EndsNode (narrow ok) 120 [] []) [] [] reason.TreeShort
 row-empty ok = inl (inl (refl, refl))
 
--- the low of the open dossier `[0,0,3,1,1]` of cost 120
-row-low : (ok : IsInstance chambers-narrow ships-narrow) (P : Plan) → IsLow (narrow ok) (record { cost = 120; cuts = []; plan = P; prices = []; tree = mark.Split ∷ mark.Split ∷ mark.Open ∷ mark.Leaf by.Bound ∷ mark.Leaf by.Bound ∷ [] }) 80
-row-low ok P = record {
-  bounds = 80 ∷ [];
-  leaves =
-      inr (
-        mark.Split ∷ mark.Open ∷ mark.Leaf by.Bound ∷ mark.Leaf by.Bound ∷ [],
-        refl,
-        (
-          [],
-          80 ∷ [],
-          [],
-          inr (
-            mark.Open ∷ mark.Leaf by.Bound ∷ mark.Leaf by.Bound ∷ [],
-            refl,
-            (
-              mark.Leaf by.Bound ∷ mark.Leaf by.Bound ∷ [],
-              80 ∷ [],
-              [],
-              (mark.Open, refl, refl),
-              (
-                mark.Leaf by.Bound ∷ [],
-                [],
-                [],
-                (mark.Leaf by.Bound, refl, refl),
-                ([], [], [], (mark.Leaf by.Bound, refl, refl), (refl, refl), refl),
-                refl,
-              ),
-              refl,
-            ),
-          ),
-          (refl, refl),
-          refl,
-        ),
-      );
-  least = refl;
-}
-
 -- ---- prices: the cut of both ships, and prices 8400 and 8400 at the root
 
-abbrev narrow_cuts : List CertCut
+abbrev pub narrow_cuts : List CertCut
 narrow_cuts = record { chamber = 0; ships = 0 ∷ 1 ∷ []; refutation = refutation.Quick (Row (0 ∷ 1 ∷ [])) } ∷ []
 
-abbrev low_prices : List (List ℕ)
+abbrev pub low_prices : List (List ℕ)
 low_prices = (8400 ∷ 8400 ∷ []) ∷ []
 
 -- the first ship alone in the chamber is worth 3500 - 8400

@@ -4,4 +4,5 @@ pub mod SweptRows
 pub mod FailLemmas
 pub mod LeastLemmas
 pub mod LowLemmas
+pub mod LowRows
 pub mod TreeLemmas

@@ -1,7 +1,6 @@
 -- A certificate that stands proves its low.
-use Rattle.std.proofs.Common.{◌≡◌, ℕ, zero, suc, ◌+◌, ◌≤◌, List, [], ◌∷◌, ◌++◌, length, ◌⊎◌, inl, inr, sym, ap, ◌∙◌, subst, arith, All, Contains}
+use Rattle.std.proofs.Common.{◌≡◌, ℕ, zero, suc, ◌+◌, ◌≤◌, List, [], ◌∷◌, length, inl, inr, sym, subst, arith, All, Contains, max}
 use Rattle.std.proofs.lemmas.List.Elements.{All-contains, All-map, All-weaker}
-use Rattle.list_laws.proofs.Lists.{same-tails, same-heads}
 use Rattle.lock_model.specs.declared.instance.Instance.{Instance}
 use Rattle.lock_model.specs.declared.group.Group.{Group}
 use Rattle.lock_model.specs.declared.plan.Plan.{Plan}
@@ -13,45 +12,67 @@ use Rattle.lock_rules.specs.Bound.{bound_of}
 use Rattle.refute_rules.specs.Trees.{AreInOrder}
 use Rattle.certificate_rules.specs.declared.certificate.Mark.TheVariants as mark
 use Rattle.certificate_rules.specs.declared.certificate.Mark.{Mark}
-use Rattle.price_rules.specs.Prices.{CutHolds}
+use Rattle.price_rules.specs.Prices.{PlainCut, CutHolds}
 use Rattle.closing_rules.specs.declared.grounds.Ground.{Ground}
 use Rattle.closing_rules.specs.declared.grounds.Ground.TheVariants as by
-use Rattle.closing_rules.specs.ListedPrices.{cut_in}
+use Rattle.closing_rules.specs.ListedPrices.{cut_in, IsPricedBy}
 use Rattle.closing_rules.specs.ProvedCuts.{CertCut, IsProved}
 use Rattle.certificate_rules.specs.Certificates.{Certificate, cuts_in, EndsNode, IsMarkTree, Stands}
-use Rattle.certificate_rules.specs.Low.{OpenInOrder, HasOpen, leaf_bounds, IsLow}
+use Rattle.certificate_rules.specs.Low.{ShowsCost, EndsShowing, IsTreeShowing, IsLow}
+use Rattle.certificate_rules.proofs.TreeLemmas.{tree-weaker}
 use Rattle.closing_rules.specs.Laws.{TreeLaws}
-use Rattle.closing_rules.proofs.BelowLemmas.{HasBelow, least-below}
 
-below-left : (v : ℕ) (xs ys : List ℕ) → HasBelow v xs → HasBelow v (xs ++ ys)
-below-left v [] ys h = absurd h
-below-left v (x ∷ xs) ys (inl h) = inl h
-below-left v (x ∷ xs) ys (inr h) = inr (below-left v xs ys h)
+-- ---- what an open leaf shows
 
-below-right : (v : ℕ) (xs ys : List ℕ) → HasBelow v ys → HasBelow v (xs ++ ys)
-below-right v [] ys h = h
-below-right v (x ∷ xs) ys h = inr (below-right v xs ys h)
+-- less is reached too
+pub priced-less : (I : Instance) (cuts : List PlainCut) (prices : List (List ℕ)) (number k : ℕ) (lines : List (List Group)) (n less : ℕ) → less ≤ n → IsPricedBy I cuts prices number k lines n → IsPricedBy I cuts prices number k lines less
+priced-less I cuts prices number k lines n less low priced = record {
+  own = priced.own;
+  there = priced.there;
+  reached = record { high = λ chosen loose. let high = priced.reached.high chosen loose in omega (arith, low, high) };
+}
 
-module _ (I : Instance) (cost : ℕ) (cuts : List CertCut) (prices : List (List ℕ)) where
+module _ (I : Instance) (cuts : List CertCut) (prices : List (List ℕ)) where
+  -- a mark that shows a number shows each that is less
+  pub shows-less : (n less k : ℕ) (lines : List (List Group)) (m : Mark) → less ≤ n → ShowsCost I cuts prices n k lines m → ShowsCost I cuts prices less k lines m
+  shows-less n less k lines mark.Split low h = tt
+  shows-less n less k lines (mark.Leaf why) low h = tt
+  shows-less n less k lines mark.Open low h = omega (arith, low, h)
+  shows-less n less k lines (mark.OpenPriced number) low (inl h) = inl (omega (arith, low, h))
+  shows-less n less k lines (mark.OpenPriced number) low (inr h) = inr (priced-less I (cuts_in I cuts) prices number k lines n less low h)
+
+  -- so does a tree
+  pub tree-less : (cost n less lacking k : ℕ) (lines : List (List Group)) (m r : List Mark) → less ≤ n
+      → IsMarkTree I (EndsShowing I cost cuts prices n) lacking k lines m r → IsMarkTree I (EndsShowing I cost cuts prices less) lacking k lines m r
+  tree-less cost n less lacking k lines m r low h =
+      tree-weaker I (EndsShowing I cost cuts prices n) (EndsShowing I cost cuts prices less)
+      (λ j own mark ends. (ends.0, shows-less n less j own mark low ends.1)) lacking k lines m r h
+
+  -- whose marks all end their nodes
+  pub tree-ends : (cost n lacking k : ℕ) (lines : List (List Group)) (m r : List Mark)
+      → IsMarkTree I (EndsShowing I cost cuts prices n) lacking k lines m r → IsMarkTree I (EndsNode I cost cuts prices) lacking k lines m r
+  tree-ends cost n lacking k lines m r h = tree-weaker I (EndsShowing I cost cuts prices n) (EndsNode I cost cuts prices) (λ j own mark ends. ends.0) lacking k lines m r h
+
+  -- Of an open leaf by prices the greater of its bound and of the greatest cost that is reached, of those up to `most`, is the
+  -- greatest that it shows.
+  pub priced-most : (number k : ℕ) (lines : List (List Group)) (most cost n : ℕ) → ((other : ℕ) → other ≤ most → IsPricedBy I (cuts_in I cuts) prices number k lines other → other ≤ cost)
+      → n ≤ most → ShowsCost I cuts prices n k lines (mark.OpenPriced number) → n ≤ max (bound_of I k lines) cost
+  priced-most number k lines most cost n greatest low (inl h) = omega (arith, h)
+  priced-most number k lines most cost n greatest low (inr h) = let reached = greatest n low h in omega (arith, reached)
+
+-- ---- a certificate has one low
+
+pub low-same : (I : Instance) (C : Certificate) (m n : ℕ) → IsLow I C m → IsLow I C n → m ≡ n
+low-same I C m n a b =
+    let above = b.greatest m a.most a.shown in
+    let below = a.greatest n b.most b.shown in
+    omega (arith, above, below)
+
+-- ---- and no plan costs less
+
+module _ (I : Instance) (cost : ℕ) (cuts : List CertCut) (prices : List (List ℕ)) (n : ℕ) (few : n ≤ cost) where
   abbrev Tree : ℕ → ℕ → List (List Group) → List Mark → List Mark → Type 0
-  Tree = IsMarkTree I (EndsNode I cost cuts prices)
-
-  order-unique : (lacking k : ℕ) → ((x : List (List Group)) (m r s : List Mark) (bs : List ℕ) → Tree lacking (suc k) x m r → HasOpen I lacking (suc k) x m s bs → r ≡ s)
-      → (xs : List (List (List Group))) (m r s : List Mark) (bs : List ℕ) → AreInOrder (Tree lacking (suc k)) xs m r → OpenInOrder (HasOpen I lacking (suc k)) xs m s bs → r ≡ s
-  order-unique lacking k one [] m r s bs a b = sym a ∙ b.0
-  order-unique lacking k one (x ∷ xs) m r s bs a b =
-      order-unique lacking k one xs b.0 r s b.2 (subst (λ u. AreInOrder (Tree lacking (suc k)) xs u r) (one x m a.0 b.0 b.1 a.1 b.3) a.2) b.4
-
-  -- both relations end at the same marks
-  open-unique : (lacking k : ℕ) (lines : List (List Group)) (m r s : List Mark) (bs : List ℕ) → Tree lacking k lines m r → HasOpen I lacking k lines m s bs → r ≡ s
-  open-unique zero k lines m r s bs a b = same-tails a.0 b.0 r s (sym a.2 ∙ b.1)
-  open-unique (suc lacking) k lines m r s bs (inl a) (inl b) = same-tails a.0 b.0 r s (sym a.2 ∙ b.2)
-  open-unique (suc lacking) k lines m r s bs (inl a) (inr b) = absurd (subst (EndsNode I cost cuts prices k lines) (same-heads a.0 mark.Split r b.0 (sym a.2 ∙ b.1)) a.1)
-  open-unique (suc lacking) k lines m r s bs (inr a) (inl b) = absurd (b.1 (same-heads b.0 mark.Split s a.0 (sym b.2 ∙ a.1)))
-  open-unique (suc lacking) k lines m r s bs (inr a) (inr b) =
-      let same : a.0 ≡ b.0 = same-tails mark.Split mark.Split a.0 b.0 (sym a.1 ∙ b.1) in
-      order-unique lacking k (λ x m r s bs t h. open-unique lacking (suc k) x m r s bs t h) (children_of I k lines) b.0 r s bs
-      (subst (λ u. AreInOrder (Tree lacking (suc k)) (children_of I k lines) u r) same a.2) b.2
+  Tree = IsMarkTree I (EndsShowing I cost cuts prices n)
 
   module _ (laws : TreeLaws I) (proved : All (IsProved I) cuts) (P : Plan) (legal : IsLegal I P) where
     abbrev v : ℕ
@@ -72,45 +93,34 @@ module _ (I : Instance) (cost : ℕ) (cuts : List CertCut) (prices : List (List 
     closes-holds k lines (by.Price number) node under h = laws.price (cuts_in I cuts) k lines h.own cost cuts-hold h.reached P legal under
     closes-holds k lines (by.Swept number) node under h = laws.swept (cuts_in I cuts) cost cuts-hold h.swept P legal
 
-    leaf-low : (k : ℕ) (lines : List (List Group)) (m : Mark) → IsNode I k lines → IsUnder I k lines P → EndsNode I cost cuts prices k lines m → (cost ≤ v) ⊎ HasBelow v (leaf_bounds (bound_of I k lines) m)
-    leaf-low k lines mark.Split node under h = absurd h
-    leaf-low k lines (mark.Leaf why) node under h = inl (closes-holds k lines why node under h)
-    leaf-low k lines mark.Open node under h = inr (inl (laws.bound k lines node P legal under))
+    -- a mark that ends a node with the plan under it, and shows n where it leaves it open
+    leaf-low : (k : ℕ) (lines : List (List Group)) (m : Mark) → IsNode I k lines → IsUnder I k lines P → EndsShowing I cost cuts prices n k lines m → n ≤ v
+    leaf-low k lines mark.Split node under h = absurd h.0
+    leaf-low k lines (mark.Leaf why) node under h = let closed = closes-holds k lines why node under h.0 in omega (arith, few, closed)
+    leaf-low k lines mark.Open node under h = let b = laws.bound k lines node P legal under in let shown = h.1 in omega (arith, shown, b)
+    leaf-low k lines (mark.OpenPriced number) node under (known, inl shown) = let b = laws.bound k lines node P legal under in omega (arith, shown, b)
+    leaf-low k lines (mark.OpenPriced number) node under (known, inr shown) = laws.price (cuts_in I cuts) k lines shown.own n cuts-hold shown.reached P legal under
 
-    leaves-low : (k : ℕ) (lines : List (List Group)) (m n : Mark) (marks r s : List Mark) (bs : List ℕ) → IsNode I k lines → IsUnder I k lines P → EndsNode I cost cuts prices k lines m → marks ≡ m ∷ r → marks ≡ n ∷ s → bs ≡ leaf_bounds (bound_of I k lines) n → (cost ≤ v) ⊎ HasBelow v bs
-    leaves-low k lines m n marks r s bs node under h e f g =
-        subst (λ u. (cost ≤ v) ⊎ HasBelow v u) (ap (leaf_bounds (bound_of I k lines)) (same-heads m n r s (sym e ∙ f)) ∙ sym g) (leaf-low k lines m node under h)
+    order-low : (k : ℕ) (Child : List (List Group) → List Mark → List Mark → Type 0) → ((x : List (List Group)) (m r : List Mark) → IsNode I k x → IsUnder I k x P → Child x m r → n ≤ v)
+        → (xs : List (List (List Group))) (m r : List Mark) (x : List (List Group)) → Contains xs x → IsNode I k x → IsUnder I k x P → AreInOrder Child xs m r → n ≤ v
+    order-low k Child one [] m r x among node under a = absurd (omega (arith, among.1))
+    order-low k Child one (y ∷ ys) m r x (zero, known, is) node under a =
+        one y m a.0 (subst (IsNode I k) (sym is) node) (subst (λ u. IsUnder I k u P) (sym is) under) a.1
+    order-low k Child one (y ∷ ys) m r x (suc i, known, is) node under a = order-low k Child one ys a.0 r x (i, omega (arith, known), is) node under a.2
 
-    order-low : (lacking k : ℕ) → ((x : List (List Group)) (m r s : List Mark) (bs : List ℕ) → IsNode I (suc k) x → IsUnder I (suc k) x P → Tree lacking (suc k) x m r → HasOpen I lacking (suc k) x m s bs → (cost ≤ v) ⊎ HasBelow v bs)
-        → (xs : List (List (List Group))) (m r s : List Mark) (bs : List ℕ) (x : List (List Group)) → Contains xs x → IsNode I (suc k) x → IsUnder I (suc k) x P → AreInOrder (Tree lacking (suc k)) xs m r → OpenInOrder (HasOpen I lacking (suc k)) xs m s bs → (cost ≤ v) ⊎ HasBelow v bs
-    order-low lacking k one [] m r s bs x among node under a b = absurd (omega (arith, among.1))
-    order-low lacking k one (y ∷ ys) m r s bs x (zero, known, is) node under a b =
-        elim (one y m a.0 b.0 b.1 (subst (IsNode I (suc k)) (sym is) node) (subst (λ u. IsUnder I (suc k) u P) (sym is) under) a.1 b.3) [
-          | inl h ↦ inl h
-          | inr h ↦ inr (subst (HasBelow v) (sym b.5) (below-left v b.1 b.2 h))
-        ]
-    order-low lacking k one (y ∷ ys) m r s bs x (suc i, known, is) node under a b =
-        elim (order-low lacking k one ys b.0 r s b.2 x (i, omega (arith, known), is) node under (subst (λ u. AreInOrder (Tree lacking (suc k)) ys u r) (open-unique lacking (suc k) y m a.0 b.0 b.1 a.1 b.3) a.2) b.4) [
-          | inl h ↦ inl h
-          | inr h ↦ inr (subst (HasBelow v) (sym b.5) (below-right v b.1 b.2 h))
-        ]
-
-    tree-low : (lacking k : ℕ) (lines : List (List Group)) (m r s : List Mark) (bs : List ℕ) → lacking + k ≡ length I.ships → IsNode I k lines → IsUnder I k lines P → Tree lacking k lines m r → HasOpen I lacking k lines m s bs → (cost ≤ v) ⊎ HasBelow v bs
-    tree-low zero k lines m r s bs count node under a b = leaves-low k lines a.0 b.0 m r s bs node under a.1 a.2 b.1 b.2
-    tree-low (suc lacking) k lines m r s bs count node under (inl a) (inl b) = leaves-low k lines a.0 b.0 m r s bs node under a.1 a.2 b.2 b.3
-    tree-low (suc lacking) k lines m r s bs count node under (inl a) (inr b) = absurd (subst (EndsNode I cost cuts prices k lines) (same-heads a.0 mark.Split r b.0 (sym a.2 ∙ b.1)) a.1)
-    tree-low (suc lacking) k lines m r s bs count node under (inr a) (inl b) = absurd (b.1 (same-heads b.0 mark.Split s a.0 (sym b.2 ∙ a.1)))
-    tree-low (suc lacking) k lines m r s bs count node under (inr a) (inr b) =
-        let same : a.0 ≡ b.0 = same-tails mark.Split mark.Split a.0 b.0 (sym a.1 ∙ b.1) in
+    pub tree-low : (lacking k : ℕ) (lines : List (List Group)) (m r : List Mark) → lacking + k ≡ length I.ships → IsNode I k lines → IsUnder I k lines P → Tree lacking k lines m r → n ≤ v
+    tree-low zero k lines m r count node under a = leaf-low k lines a.0 node under a.1
+    tree-low (suc lacking) k lines m r count node under (inl a) = leaf-low k lines a.0 node under a.1
+    tree-low (suc lacking) k lines m r count node under (inr a) =
         let way = laws.split k lines P node (omega (arith, count)) legal under in
         let child = All-contains (IsNode I (suc k)) (children_of I k lines) way.child (laws.child k lines node (omega (arith, count))) way.among in
-        order-low lacking k (λ x m r s bs n u t h. tree-low lacking (suc k) x m r s bs (omega (arith, count)) n u t h) (children_of I k lines) b.0 r s bs way.child way.among child way.under
-        (subst (λ u. AreInOrder (Tree lacking (suc k)) (children_of I k lines) u r) same a.2) b.2
+        order-low (suc k) (Tree lacking (suc k)) (λ x m r own below t. tree-low lacking (suc k) x m r (omega (arith, count)) own below t) (children_of I k lines) a.0 r way.child way.among child way.under a.2
 
--- every legal plan costs at least the low
+-- every legal plan costs at least what all open leaves show
+pub showing-low : (I : Instance) (C : Certificate) (n : ℕ) → n ≤ C.cost → TreeLaws I → All (IsProved I) C.cuts → IsTreeShowing I C n → (P : Plan) → IsLegal I P → n ≤ cost_of I P
+showing-low I C n few laws proved shown P legal =
+    tree-low I C.cost C.cuts C.prices n few laws proved P legal (length I.ships) 0 root_lines C.tree [] (omega arith) laws.root (laws.all P legal) shown
+
+-- so it costs at least the low
 pub stands-low : (I : Instance) (C : Certificate) (low : ℕ) → TreeLaws I → Stands I C → IsLow I C low → (P : Plan) → IsLegal I P → low ≤ cost_of I P
-stands-low I C low laws stands is P legal =
-    let found = tree-low I C.cost C.cuts C.prices laws stands.cuts P legal (length I.ships) 0 root_lines C.tree [] [] is.bounds (omega arith) laws.root (laws.all P legal) stands.tree is.leaves in
-    let below = least-below (cost_of I P) (C.cost ∷ is.bounds) found in
-    let same = is.least in
-    omega (arith, below, same)
+stands-low I C low laws stands is P legal = showing-low I C low is.most laws stands.cuts is.shown P legal

@@ -42,6 +42,18 @@ module _ (I : Instance) (Ends : ℕ → List (List Group) → Mark → Type 0) w
         refl,
       )
 
+in_order-weaker : {X M : Type 0} (Tree Other : X → List M → List M → Type 0) → ((x : X) (m r : List M) → Tree x m r → Other x m r) → (xs : List X) (m r : List M) → AreInOrder Tree xs m r → AreInOrder Other xs m r
+in_order-weaker Tree Other each [] m r h = h
+in_order-weaker Tree Other each (x ∷ xs) m r h = (h.0, each x m h.0 h.1, in_order-weaker Tree Other each xs h.0 r h.2)
+
+-- a tree stays one where marks that end nodes end them in another way too
+pub tree-weaker : (I : Instance) (Ends Other : ℕ → List (List Group) → Mark → Type 0) → ((k : ℕ) (lines : List (List Group)) (m : Mark) → Ends k lines m → Other k lines m)
+    → (lacking k : ℕ) (lines : List (List Group)) (m r : List Mark) → IsMarkTree I Ends lacking k lines m r → IsMarkTree I Other lacking k lines m r
+tree-weaker I Ends Other each zero k lines m r h = (h.0, each k lines h.0 h.1, h.2)
+tree-weaker I Ends Other each (suc lacking) k lines m r (inl h) = inl (h.0, each k lines h.0 h.1, h.2)
+tree-weaker I Ends Other each (suc lacking) k lines m r (inr h) =
+    inr (h.0, h.1, in_order-weaker (IsMarkTree I Ends lacking (suc k)) (IsMarkTree I Other lacking (suc k)) (λ x m r t. tree-weaker I Ends Other each lacking (suc k) x m r t) (children_of I k lines) h.0 r h.2)
+
 in_order-shorter : {X M : Type 0} (Tree : X → List M → List M → Type 0) → ((x : X) (m r : List M) → Tree x m r → length r ≤ length m) → (xs : List X) (m r : List M) → AreInOrder Tree xs m r → length r ≤ length m
 in_order-shorter Tree each [] m r h = let same = ap length h in omega (arith, same)
 in_order-shorter Tree each (x ∷ xs) m r h =

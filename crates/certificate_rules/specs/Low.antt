@@ -1,48 +1,33 @@
 -- What a certificate proves: no plan costs less than its low.
-use Rattle.std.specs.Prelude.{ℕ, zero, suc, ◌≡◌, ◌≤◌, ◌⊎◌, List, [], ◌∷◌, ◌++◌, length}
+use Rattle.std.specs.Prelude.{ℕ, ◌≤◌, ◌⊎◌, List, [], length, ⊤}
 use Rattle.lock_model.specs.declared.instance.Instance.{Instance}
 use Rattle.lock_model.specs.declared.group.Group.{Group}
 use Rattle.lock_rules.specs.Node.{root_lines}
-use Rattle.lock_rules.specs.Children.{children_of}
-use Rattle.lock_rules.specs.Bound.{bound_of, least_number}
+use Rattle.lock_rules.specs.Bound.{bound_of}
 use Rattle.closing_rules.specs.ProvedCuts.{CertCut}
 use Rattle.closing_rules.specs.ListedPrices.{IsPricedBy}
 use Rattle.certificate_rules.specs.declared.certificate.Mark.{Mark}
-use Rattle.certificate_rules.specs.Certificates.{Certificate, cuts_in}
+use Rattle.certificate_rules.specs.Certificates.{Certificate, cuts_in, EndsNode, IsMarkTree}
 use Rattle.certificate_rules.specs.declared.certificate.Mark.TheVariants as mark
 
--- the greater of a bound and the greatest cost that is reached, of those up to `cost`
-pub record IsPricedLow (bound cost : ℕ) (Reached : ℕ → Type 0) (low : ℕ) : Type 0 where
-  pub least : bound ≤ low
-  pub known : (low ≡ bound) ⊎ ((low ≤ cost) × Reached low)
-  pub greatest : (other : ℕ) → other ≤ cost → Reached other → other ≤ low
+-- A mark that leaves a node of depth k open shows n of it: the node's bound is as much, or the node reaches it by the mark's prices.
+abbrev pub ShowsCost : Instance → List CertCut → List (List ℕ) → ℕ → ℕ → List (List Group) → Mark → Type 0
+ShowsCost I cuts prices n k lines mark.Split = ⊤
+ShowsCost I cuts prices n k lines (mark.Leaf why) = ⊤
+ShowsCost I cuts prices n k lines mark.Open = n ≤ bound_of I k lines
+ShowsCost I cuts prices n k lines (mark.OpenPriced number) =
+    (n ≤ bound_of I k lines) ⊎ IsPricedBy I (cuts_in I cuts) prices number k lines n
 
--- what a mark that leaves a node of depth k open says that a plan under it costs at the least: its bound, or what its prices show
-abbrev pub AreLeafLows : Instance → ℕ → List CertCut → List (List ℕ) → ℕ → List (List Group) → Mark → List ℕ → Type 0
-AreLeafLows I cost cuts prices k lines mark.Split lows = lows ≡ []
-AreLeafLows I cost cuts prices k lines (mark.Leaf why) lows = lows ≡ []
-AreLeafLows I cost cuts prices k lines mark.Open lows = lows ≡ bound_of I k lines ∷ []
-AreLeafLows I cost cuts prices k lines (mark.OpenPriced number) lows =
-    (low : ℕ) × (lows ≡ low ∷ []) × IsPricedLow (bound_of I k lines) cost (IsPricedBy I (cuts_in I cuts) prices number k lines) low
+-- the mark ends the node against this cost, and shows n of it where it leaves it open
+abbrev pub EndsShowing : Instance → ℕ → List CertCut → List (List ℕ) → ℕ → ℕ → List (List Group) → Mark → Type 0
+EndsShowing I cost cuts prices n k lines m = EndsNode I cost cuts prices k lines m × ShowsCost I cuts prices n k lines m
 
--- the lows of the open leaves of one tree for each of these nodes, in order
-abbrev pub OpenInOrder :
-    (List (List Group) → List Mark → List Mark → List ℕ → Type 0) → List (List (List Group)) → List Mark → List Mark → List ℕ → Type 0
-OpenInOrder Tree [] marks rest lows = (marks ≡ rest) × (lows ≡ [])
-OpenInOrder Tree (x ∷ xs) marks rest lows =
-    (middle : List Mark) × (first : List ℕ) × (others : List ℕ)
-    × Tree x marks middle first × OpenInOrder Tree xs middle rest others × (lows ≡ first ++ others)
+-- exactly one certificate tree of the root, each open leaf of which shows n
+abbrev pub IsTreeShowing : Instance → Certificate → ℕ → Type 0
+IsTreeShowing I C n = IsMarkTree I (EndsShowing I C.cost C.cuts C.prices n) (length I.ships) 0 root_lines C.tree []
 
--- The marks begin with one tree of the node, and these are the lows of its open leaves, in order; `Lows` says which a mark has.
-abbrev pub HasOpen :
-    Instance → (ℕ → List (List Group) → Mark → List ℕ → Type 0) → ℕ → ℕ → List (List Group) → List Mark → List Mark → List ℕ → Type 0
-HasOpen I Lows zero k lines marks rest lows = (m : Mark) × (marks ≡ m ∷ rest) × Lows k lines m lows
-HasOpen I Lows (suc lacking) k lines marks rest lows =
-    ((m : Mark) × (m ≡ mark.Split → ⊥) × (marks ≡ m ∷ rest) × Lows k lines m lows)
-    ⊎ ((inner : List Mark) × (marks ≡ mark.Split ∷ inner) × OpenInOrder (HasOpen I Lows lacking (suc k)) (children_of I k lines) inner rest lows)
-
--- the least of the cost and the lows of the open leaves
+-- The greatest number up to the cost that all open leaves show: the least of the cost and of what each leaf shows at the most.
 pub record IsLow (I : Instance) (C : Certificate) (low : ℕ) : Type 0 where
-  pub lows : List ℕ
-  pub leaves : HasOpen I (AreLeafLows I C.cost C.cuts C.prices) (length I.ships) 0 root_lines C.tree [] lows
-  pub least : low ≡ least_number (C.cost ∷ lows)
+  pub most : low ≤ C.cost
+  pub shown : IsTreeShowing I C low
+  pub greatest : (n : ℕ) → n ≤ C.cost → IsTreeShowing I C n → n ≤ low

@@ -5,14 +5,15 @@
 //! - `specs/Low`: what a certificate proves that stands.
 //! - `specs/WellFormed`: those that can be written as a text, and how their marks are numbered.
 //!
-//! A certificate may have prices, and marks that close a node by the prices of a number, or the root by a
-//! sweep.
+//! A certificate may have prices. Marks may close a node by the prices of a number, or the root by a
+//! sweep, or leave a node open by the prices of a number. An open leaf names no cost: it shows what its
+//! bound and its prices show, and the low is the greatest number up to the cost that all open leaves show.
 //!
 //! The laws stand in `proofs/`: a certificate that stands proves its low (`LowLemmas`), acceptance means
 //! cheapest (`AcceptLemmas`), no certificate that stands fails (`FailLemmas`). They take the laws of the
 //! tree, `TreeLaws` of `closing_rules`. `CertRows` holds worked rows, `SweptRows` those of a root that
-//! is closed by a sweep; of lemmas for others, `TreeLemmas` tells of trees of marks and `LeastLemmas` of
-//! the least of some numbers.
+//! is closed by a sweep, `LowRows` those of open leaves; of lemmas for others, `TreeLemmas` tells of
+//! trees of marks and `LeastLemmas` of the least of some numbers.
 #![tactic(auto)]
 
 mod certificate;
