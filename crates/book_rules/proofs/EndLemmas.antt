@@ -150,7 +150,7 @@ module _ (b : Book) (laws : TreeLaws b.case.instance) (keeps : KeepsBook b) (par
     reached = reached-stays I (cuts_in I b.cuts) (cuts_in I b.cuts) (cuts-own I b.cuts) node.depth node.lines reached.own shown.cost low (omega (arith, above, most)) reached.reached;
   }
 
-  -- what is at least a good slot's bound and no more than is known of it
+  -- what is at least a good slot's bound, and no more than is known of it, is that bound or is shown of its node
   slot-known : (s : Slot) (low : ℕ) → IsGoodSlot I s → HasTrueLow I b.cuts b.prices s → s.bound ≤ low → low ≤ slot_low s → (low ≡ bound_at I s.node) ⊎ IsShownAbove I s.node.depth s.node.lines low
   slot-known s low good reached least most =
       elim (leb_tells low s.bound) [

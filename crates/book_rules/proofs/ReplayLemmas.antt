@@ -155,27 +155,6 @@ module _ {Break : Type 0} (broken : Instance → Plan → Option Break) where
       unrefused-again b id (by.Price number) (Step.price_refusal b id number shown (Some prices)) (Step.price_refusal b id number (own_shown b id number (best_cost b)) (Some prices))
       (own-unrefused b id number prices there) (may-refuse_price b id Break number shown (Some prices)) good
 
-  -- ---- showing a cost again, with what the book itself says
-
-  -- where it is known whether what was shown is of the slot
-  abbrev shown_way : Book → ℕ → ShownLow → Bool → Book × Reply Break
-  shown_way b id low t =
-      let known = slot_low (slot_at b id) in
-      Step.show_unless b id low (cond (not t) (Some NotShown) (cond (nat_le low.cost known) (Some (Lower low.cost known)) None))
-
-  own-again : (b : Book) (id : ℕ) (low : ShownLow) (t : Bool) → is_acceptance (shown_way b id low t).1 ≡ true → (shown_way b id low true).0 ≡ (shown_way b id low t).0
-  own-again b id low true good = refl
-  own-again b id low false good = absurd (false≢true good)
-
-  low-again : (b : Book) (id number : ℕ) (shown : Shown) (o : Option (List ℕ)) → slice_get b.prices number ≡ o
-      → is_acceptance (Step.show_unless {Break = Break} b id (record { prices = number; cost = shown.cost }) (Step.low_refusal b id number shown o)).1 ≡ true
-      → (Step.show_unless {Break = Break} b id (record { prices = number; cost = shown.cost }) (Step.low_refusal b id number (own_shown b id number shown.cost) o)).0
-      ≡ (Step.show_unless {Break = Break} b id (record { prices = number; cost = shown.cost }) (Step.low_refusal b id number shown o)).0
-  low-again b id number shown None there good = refl
-  low-again b id number shown (Some prices) there good =
-      let low : ShownLow = record { prices = number; cost = shown.cost } in
-      ap (λ t. (shown_way b id low t).0) (own-shown b id number prices there shown.cost) ∙ own-again b id low (Step.is_shown b id prices shown) good
-
   -- where it is known whether the slot is the root
   abbrev root_way : Book → ℕ → Swept → Option (List ℕ) → Bool → Option (Reply Break)
   root_way b number swept o t = cond (not t) (Some NotRoot) (Step.sweep_by_prices b number swept o)
@@ -201,6 +180,29 @@ module _ {Break : Type 0} (broken : Instance → Plan → Option Break) where
   closing-again b id by.Throughput good = refl
   closing-again b id (by.Probe s) good = refl
   closing-again b id (by.Cut number) good = refl
+
+  -- ---- showing a cost again, with what the book itself says
+
+  -- where it is known whether what was shown is of the slot
+  abbrev shown_way : Book → ℕ → ShownLow → Bool → Book × Reply Break
+  shown_way b id low t =
+      let known = slot_low (slot_at b id) in
+      Step.show_unless b id low (cond (not t) (Some NotShown) (cond (nat_le low.cost known) (Some (Lower low.cost known)) None))
+
+  own-again : (b : Book) (id : ℕ) (low : ShownLow) (t : Bool) → is_acceptance (shown_way b id low t).1 ≡ true → (shown_way b id low true).0 ≡ (shown_way b id low t).0
+  own-again b id low true good = refl
+  own-again b id low false good = absurd (false≢true good)
+
+  low-again : (b : Book) (id number : ℕ) (shown : Shown) (o : Option (List ℕ)) → slice_get b.prices number ≡ o
+      → is_acceptance (Step.show_unless {Break = Break} b id (record { prices = number; cost = shown.cost }) (Step.low_refusal b id number shown o)).1 ≡ true
+      → (Step.show_unless {Break = Break} b id (record { prices = number; cost = shown.cost }) (Step.low_refusal b id number (own_shown b id number shown.cost) o)).0
+      ≡ (Step.show_unless {Break = Break} b id (record { prices = number; cost = shown.cost }) (Step.low_refusal b id number shown o)).0
+  low-again b id number shown None there good = refl
+  low-again b id number shown (Some prices) there good =
+      let low : ShownLow = record { prices = number; cost = shown.cost } in
+      ap (λ t. (shown_way b id low t).0) (own-shown b id number prices there shown.cost) ∙ own-again b id low (Step.is_shown b id prices shown) good
+
+  -- ---- every event again
 
   -- one accepted event, replayed by its entry
   replay-one : (b : Book) (e : Event) → is_acceptance (Step.step broken b e).1 ≡ true → replay_from broken b (entry_of e ∷ []) (cuts_of e) (plans_of e) (prices_of e) ≡ after b e
