@@ -19,7 +19,7 @@ use Rattle.certificate_rules.specs.Failures.{FailInOrder, FailsHere, TreeFails, 
 nil-cons : {X : Type 0} (x : X) (xs : List X) → [] ≡ x ∷ xs → ⊥
 nil-cons x xs e = cc
 
-in_order-unique : {X M : Type 0} (Tree : X → List M → List M → Type 0) → ((x : X) (m r s : List M) → Tree x m r → Tree x m s → r ≡ s) → (xs : List X) (m r s : List M) → AreInOrder Tree xs m r → AreInOrder Tree xs m s → r ≡ s
+pub in_order-unique : {X M : Type 0} (Tree : X → List M → List M → Type 0) → ((x : X) (m r s : List M) → Tree x m r → Tree x m s → r ≡ s) → (xs : List X) (m r s : List M) → AreInOrder Tree xs m r → AreInOrder Tree xs m s → r ≡ s
 in_order-unique Tree one [] m r s a b = sym a ∙ b
 in_order-unique Tree one (x ∷ xs) m r s a b =
     let same : a.0 ≡ b.0 = one x m a.0 b.0 a.1 b.1 in

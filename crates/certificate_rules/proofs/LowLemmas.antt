@@ -1,5 +1,6 @@
 -- A certificate that stands proves its low.
-use Rattle.std.proofs.Common.{◌≡◌, ℕ, zero, suc, ◌+◌, ◌≤◌, List, [], ◌∷◌, length, inl, inr, sym, subst, arith, All, Contains, max}
+use Rattle.std.proofs.Common.{◌≡◌, ℕ, zero, suc, ◌+◌, ◌≤◌, List, [], ◌∷◌, length, ◌⊎◌, inl, inr, sym, subst, arith, All, Contains, max}
+use Rattle.std.proofs.lemmas.Bool.Decides.{leb_tells}
 use Rattle.std.proofs.lemmas.List.Elements.{All-contains, All-map, All-weaker}
 use Rattle.lock_model.specs.declared.instance.Instance.{Instance}
 use Rattle.lock_model.specs.declared.group.Group.{Group}
@@ -53,12 +54,25 @@ module _ (I : Instance) (cuts : List CertCut) (prices : List (List ℕ)) where
       → IsMarkTree I (EndsShowing I cost cuts prices n) lacking k lines m r → IsMarkTree I (EndsNode I cost cuts prices) lacking k lines m r
   tree-ends cost n lacking k lines m r h = tree-weaker I (EndsShowing I cost cuts prices n) (EndsNode I cost cuts prices) (λ j own mark ends. ends.0) lacking k lines m r h
 
-  -- Of an open leaf by prices the greater of its bound and of the greatest cost that is reached, of those up to `most`, is the
-  -- greatest that it shows.
-  pub priced-most : (number k : ℕ) (lines : List (List Group)) (most cost n : ℕ) → ((other : ℕ) → other ≤ most → IsPricedBy I (cuts_in I cuts) prices number k lines other → other ≤ cost)
+  -- Of an open leaf by prices the greater of its bound and of the greatest cost that it reaches is the most that it shows, of the
+  -- numbers up to `most`.
+  pub shows-most : (number k : ℕ) (lines : List (List Group)) (most cost n : ℕ) → ((other : ℕ) → other ≤ most → IsPricedBy I (cuts_in I cuts) prices number k lines other → other ≤ cost)
       → n ≤ most → ShowsCost I cuts prices n k lines (mark.OpenPriced number) → n ≤ max (bound_of I k lines) cost
-  priced-most number k lines most cost n greatest low (inl h) = omega (arith, h)
-  priced-most number k lines most cost n greatest low (inr h) = let reached = greatest n low h in omega (arith, reached)
+  shows-most number k lines most cost n greatest few (inl h) = omega (arith, h)
+  shows-most number k lines most cost n greatest few (inr h) = let reached = greatest n few h in omega (arith, reached)
+
+  -- and it shows that, where it reaches that cost
+  pub shows-greater : (number k : ℕ) (lines : List (List Group)) (cost : ℕ) → (cost ≡ 0) ⊎ IsPricedBy I (cuts_in I cuts) prices number k lines cost
+      → ShowsCost I cuts prices (max (bound_of I k lines) cost) k lines (mark.OpenPriced number)
+  shows-greater number k lines cost (inl none) = inl (omega (arith, none))
+  shows-greater number k lines cost (inr reached) =
+      elim (leb_tells cost (bound_of I k lines)) [
+        | inl high ↦ let most = high.1 in inl (omega (arith, most))
+        | inr low ↦
+            let less = low.1 in
+            let same : cost ≡ max (bound_of I k lines) cost = omega (arith, less) in
+            inr (subst (IsPricedBy I (cuts_in I cuts) prices number k lines) same reached)
+      ]
 
 -- ---- a certificate has one low
 

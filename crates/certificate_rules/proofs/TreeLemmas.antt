@@ -1,5 +1,6 @@
 -- Trees of marks: of a leaf, of a split node from its children, and how many marks they leave.
-use Rattle.std.proofs.Common.{Bool, false, IsTrue, ◌≡◌, ℕ, zero, suc, ◌-◌, ◌<◌, ◌≤◌, List, [], ◌∷◌, ◌++◌, refl, sym, ap, subst, length, ◌⊎◌, inl, inr, arith}
+use Rattle.std.proofs.Common.{Bool, false, IsTrue, ◌≡◌, ℕ, zero, suc, ◌-◌, ◌<◌, ◌≤◌, List, [], ◌∷◌, ◌++◌, refl, sym, ap, ◌∙◌, subst, length, ◌⊎◌, inl, inr, arith}
+use Rattle.list_laws.proofs.Lists.{same-heads}
 use Rattle.lock_model.specs.declared.instance.Instance.{Instance}
 use Rattle.lock_model.specs.declared.group.Group.{Group}
 use Rattle.lock_rules.specs.Children.{children_of}
@@ -13,6 +14,12 @@ use Rattle.certificate_rules.specs.Failures.{FailInOrder, FailsHere, TreeFails, 
 pub in_order-append : {X M : Type 0} (Tree : X → List M → List M → Type 0) (xs ys : List X) (a b c : List M) → AreInOrder Tree xs a b → AreInOrder Tree ys b c → AreInOrder Tree (xs ++ ys) a c
 in_order-append Tree [] ys a b c h k = subst (λ u. AreInOrder Tree ys u c) (sym h) k
 in_order-append Tree (x ∷ xs) ys a b c h k = (h.0, h.1, in_order-append Tree xs ys h.0 b c h.2 k)
+
+pub in_order-parts : {X M : Type 0} (Tree : X → List M → List M → Type 0) (xs ys : List X) (a c : List M) → AreInOrder Tree (xs ++ ys) a c → (b : List M) × AreInOrder Tree xs a b × AreInOrder Tree ys b c
+in_order-parts Tree [] ys a c h = (a, refl, h)
+in_order-parts Tree (x ∷ xs) ys a c h =
+    let more = in_order-parts Tree xs ys h.0 c h.2 in
+    (more.0, (h.0, h.1, more.1), more.2)
 
 pub in_order-fails : {X M : Type 0} (Tree : X → List M → List M → Type 0) (Failing : X → List M → List M → Reason → Type 0) (xs ys : List X) (a b stuck : List M) (r : Reason) → AreInOrder Tree xs a b → FailInOrder Tree Failing ys b stuck r → FailInOrder Tree Failing (xs ++ ys) a stuck r
 in_order-fails Tree Failing [] ys a b stuck r h k = subst (λ u. FailInOrder Tree Failing ys u stuck r) (sym h) k
@@ -30,6 +37,12 @@ module _ (I : Instance) (Ends : ℕ → List (List Group) → Mark → Type 0) w
   leaf-tree zero k lines m rest closes = (m, closes, refl)
   leaf-tree (suc lacking) k lines m rest closes = inl (m, closes, refl)
 
+  -- where the first mark is no split, it ends the node
+  pub tree-leaf : (lacking k : ℕ) (lines : List (List Group)) (m : Mark) (marks inner rest : List Mark) → marks ≡ m ∷ inner → (m ≡ mark.Split → ⊥) → IsMarkTree I Ends lacking k lines marks rest → Ends k lines m
+  tree-leaf zero k lines m marks inner rest is whole h = subst (Ends k lines) (same-heads h.0 m rest inner (sym h.2 ∙ is)) h.1
+  tree-leaf (suc lacking) k lines m marks inner rest is whole (inl h) = subst (Ends k lines) (same-heads h.0 m rest inner (sym h.2 ∙ is)) h.1
+  tree-leaf (suc lacking) k lines m marks inner rest is whole (inr h) = absurd (whole (same-heads m mark.Split inner h.0 (sym is ∙ h.1)))
+
   pub wrong-tree : (lacking k : ℕ) (lines : List (List Group)) (m : Mark) (rest : List Mark) → (Ends k lines m → ⊥) → (m ≡ mark.Split → lacking ≡ 0) → TreeFails I Ends lacking k lines (m ∷ rest) (m ∷ rest) (reason_of m)
   wrong-tree zero k lines m rest open' whole = (refl, open', refl)
   wrong-tree (suc lacking) k lines m rest open' whole =
@@ -42,7 +55,7 @@ module _ (I : Instance) (Ends : ℕ → List (List Group) → Mark → Type 0) w
         refl,
       )
 
-in_order-weaker : {X M : Type 0} (Tree Other : X → List M → List M → Type 0) → ((x : X) (m r : List M) → Tree x m r → Other x m r) → (xs : List X) (m r : List M) → AreInOrder Tree xs m r → AreInOrder Other xs m r
+pub in_order-weaker : {X M : Type 0} (Tree Other : X → List M → List M → Type 0) → ((x : X) (m r : List M) → Tree x m r → Other x m r) → (xs : List X) (m r : List M) → AreInOrder Tree xs m r → AreInOrder Other xs m r
 in_order-weaker Tree Other each [] m r h = h
 in_order-weaker Tree Other each (x ∷ xs) m r h = (h.0, each x m h.0 h.1, in_order-weaker Tree Other each xs h.0 r h.2)
 
