@@ -1,5 +1,5 @@
 -- What the root reaches each node reaches: its loose lines are loose lines of the root, and its own ships pay the same in both.
-use Rattle.std.proofs.Common.{◌≡◌, ℕ, zero, suc, ◌+◌, ◌<◌, ◌≤◌, List, [], ◌∷◌, length, All, sum_by, filter, true, refl, sym, ap, ◌∙◌, arith}
+use Rattle.std.proofs.Common.{◌≡◌, ℕ, zero, suc, ◌+◌, ◌<◌, ◌≤◌, List, [], ◌∷◌, length, All, sum_by, filter, refl, sym, ap, ◌∙◌, arith}
 use Rattle.std.proofs.lemmas.List.{take-append-drop}
 use Rattle.std.proofs.lemmas.List.Sums.{sum_by-append, sum_by-cons}
 use Rattle.std.proofs.lemmas.List.Elements.{All-weaker}
@@ -14,7 +14,7 @@ use Rattle.lock_rules.proofs.LineLemmas.{sum_by-each, sum_by-plus, sum_by-zero, 
 use Rattle.lock_rules.proofs.SizeLemmas.{line_ships, lines_ships, times_in-lines}
 use Rattle.lock_rules.proofs.SplitLemmas.{filter-all}
 use Rattle.lock_rules.proofs.ThroughputLemmas.{sum_by-shifted}
-use Rattle.price_rules.specs.Prices.{PlainCut, IsLoose, AreLoose, Reaches, is_missing, price_at, paid_in, paid_of, missing_prices}
+use Rattle.price_rules.specs.Prices.{PlainCut, AreLoose, Reaches, is_missing, price_at, paid_in, paid_of, missing_prices}
 
 -- no ships are left of a line where none is kept
 none-traced : (line : List Group) → trace_of [] line ≡ []
@@ -47,7 +47,7 @@ module _ (I : Instance) (cuts : List PlainCut) (k : ℕ) (lines : List (List Gro
     price_of ships = sum_by (price_at prices) ships
 
     group-price : (way : Way) (ships : List ℕ) (gs : List Group) → price_of (line_ships (with_group way ships gs)) ≡ price_of ships + price_of (line_ships gs)
-    group-price way [] gs = refl
+    group-price way [] gs = omega arith
     group-price way (s ∷ ss) gs = sum_by-append (price_at prices) (s ∷ ss) (line_ships gs)
 
     -- at the root a line pays for the ships of its trace besides
