@@ -1,3 +1,4 @@
 pub mod KeepLemmas
 pub mod SparedLemmas
 pub mod TotalLemmas
+pub mod BelowLemmas

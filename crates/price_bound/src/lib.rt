@@ -13,7 +13,8 @@
 //! Definitions: `price_rules` says what loose lines are, what they pay and what a node reaches, and
 //! `Claim` of `price_terms` what a `Shown` carries. Here `specs/Asks` says once what is asked of a node
 //! and `Asked` that a `PricedNode` asks it, and `Total` says the sum over the chambers, by `Lines` of
-//! `price_table` and `Worth` of `price_groups`. `Greatest` says which cost is the greatest. `Keeping` and `KeptGroups` are of what is kept.
+//! `price_table` and `Worth` of `price_groups`. `Greatest` says which cost is the greatest. `Keeping`
+//! and `KeptGroups` are of what is kept.
 #![tactic(auto)]
 
 mod keeping;

@@ -1,5 +1,5 @@
 //! The costs that a node reaches by prices.
-ghost use Rattle.std.specs.Prelude.{◌≡◌, ◌+◌, ◌*◌, ◌<◌, ◌≤◌, ◌↔◌, ◌≤ℤ◌, ◌<ℤ◌, ◌+ℤ◌, pos, neg_ℤ, length, IsTrue, IfOk, IfSome, IfNone, sum_by};
+ghost use Rattle.std.specs.Prelude.{◌≡◌, ◌+◌, ◌*◌, ◌<◌, ◌≤◌, ◌↔◌, ◌⊎◌, ℕ, ◌≤ℤ◌, ◌<ℤ◌, ◌+ℤ◌, pos, neg_ℤ, length, IsTrue, IfOk, IfSome, IfNone, sum_by};
 ghost use Rattle.lock_rules.specs.Arrival.{first_ships};
 ghost use Rattle.price_rules.specs.Prices.{price_at};
 ghost use Rattle.price_terms.specs.Claim.{IsReached};
@@ -169,8 +169,12 @@ pub fn reaches(
     }
 }
 
-// The greatest cost, in minutes, that a sum in hundredths of a minute reaches.
-fn cost_of(sum: i64) -> u64 {
+// The greatest cost, in minutes, of which 100 times is less than the sum and 100; 0 where there is none.
+fn cost_of(sum: i64) -> u64
+    requires { sum ≤ℤ pos 400000000000000 }
+    ensures known { (result ≡ 0) ⊎ (pos (100 * result) <ℤ (sum +ℤ pos 100)) }
+    ensures greatest { (cost : ℕ) → pos (100 * cost) <ℤ (sum +ℤ pos 100) → cost ≤ result }
+{
     (sum.max(0) as u64).div_ceil(100)
 }
 

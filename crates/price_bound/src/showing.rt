@@ -1,5 +1,6 @@
 //! Nodes that are shown to reach a cost.
-ghost use Rattle.std.specs.Prelude.{◌≡◌, ◌≤◌, ◌↔◌, IfOk, IfSome, IsSome};
+ghost use Rattle.std.specs.Prelude.{◌≡◌, ◌↔◌, min, IfOk, IfSome, IsSome};
+ghost use Rattle.lock_rules.specs.Node.{root};
 ghost use Rattle.master_branch.specs.Node.{IsNodeOf};
 ghost use Rattle.price_terms.specs.Claim.{IsReached};
 ghost use Rattle.price_bound.specs.Asked.{claimed};
@@ -28,13 +29,13 @@ pub fn show<'a>(
     }
 }
 
-/// What was shown of the root holds of each node of the instance, and of each lesser cost, in minutes: a
-/// node's loose lines are loose lines of the root too, and its own ships pay the same in both.
+/// What was shown of the root holds of each node of the instance, up to the cost that was shown, in
+/// minutes: a node's loose lines are loose lines of the root too, and its own ships pay the same in both.
 pub fn shown_below<'a>(shown: &'a Shown<'_>, node: &'a Node, cost: u64) -> Shown<'a>
-    requires root { shown.now.node.depth ≡ 0 }
+    requires root { shown.now.node ≡ root }
     requires node { IsNodeOf shown.now.instance node.now }
-    requires no_more { cost ≤ shown.now.cost }
-    ensures { result ≡ record shown.now { node = node.now; cost = cost } }
+    ensures { result ≡ record shown.now { node = node.now; cost = min cost shown.now.cost } }
 {
+    let cost = cost.min(shown.cost());
     Shown::new(shown.instance(), node, shown.prices(), shown.cuts(), cost)
 }
