@@ -1,6 +1,6 @@
 -- The order in which the ships of a lockage come in.
 use Rattle.std.proofs.Common.{◌≡◌, ℕ, ◌<◌, Bool, true, false, ◌&&◌, ◌||◌, List, [], length, ◌⊎◌, inl, inr, refl, ap, sym, ◌∙◌, arith, eq-eqb, true≢false}
-use Rattle.std.proofs.lemmas.Bool.{eqb-true, leb-true, ltb-true, le-leb, lt-ltb, and_parts, and_from}
+use Rattle.std.proofs.lemmas.Bool.{eqb-true, leb-true, ltb-true, le-leb, lt-ltb, and_parts, and_from, or_left, or_right}
 use Rattle.lock_model.specs.declared.instance.Instance.{Instance}
 use Rattle.lock_model.specs.declared.placement.Moor.{Moor}
 use Rattle.lock_model.specs.declared.placement.Moor.TheVariants.{Quay, Ship}
@@ -13,11 +13,10 @@ use Rattle.lock_rules.proofs.AmongLemmas.{among-numbers}
 use Rattle.lock_rules.proofs.BoundLemmas.{IsAmong-numbers}
 use Rattle.lock_rules.proofs.LineLemmas.{length-numbers}
 use Rattle.list_laws.specs.Among.{IsAmong}
-use Rattle.day_play.specs.ComingIn.{Respects, IsGuest, LiesBefore, Blocks, CanComeIn, hosted_by, begins_within, lies_before, blocks, comes_after, end_distance, by_depth}
+use Rattle.day_play.specs.ComingIn.{IsGuest, LiesBefore, Blocks, CanComeIn, hosted_by, begins_within, lies_before, blocks, comes_after, end_distance, by_depth}
 use Rattle.day_play.specs.Playing.{moor_order}
-use Rattle.day_play.specs.declared.coming_in.Sooner.TheVariants.{Host, HostAndBlocked}
 use Rattle.day_play.proofs.OrderLemmas.{length-put_each, put_each-among, put_each-from}
-use Rattle.day_play.proofs.InTurnLemmas.{After, respects-weaker, respects-either, length-in_turn, in_turn-from, in_turn-among, in_turn-hosts, in_turn-free}
+use Rattle.day_play.proofs.InTurnLemmas.{After, respects-weaker, respects-either, length-in_turn, in_turn-from, in_turn-among, in_turn-respects}
 
 hosted-is : (moor : Moor) (j : ℕ) → hosted_by moor j ≡ true → moor ≡ Ship j
 hosted-is Quay j h = absurd (true≢false (sym h))
@@ -48,28 +47,18 @@ module _ (I : Instance) (l : Lockage) where
       and_from (lies_before I l l.way k j) (begins_within I l k j && begins_within I l j k) (before-lies l.way k j h.before)
       (and_from (begins_within I l k j) (begins_within I l j k) (lt-ltb _ _ h.begins) (lt-ltb _ _ h.other))
 
-  guest-after : (k j : ℕ) → IsGuest l k j → After (comes_after I l Host) k j
-  guest-after k j same = ap (λ moor. hosted_by moor j) same ∙ eq-eqb j j refl
-
-  after-guest : (k j : ℕ) → After (comes_after I l Host) k j → IsGuest l k j
-  after-guest k j h = hosted-is (spot_at l.spots k).moor j h
-
-  after-either : (k j : ℕ) → After (comes_after I l HostAndBlocked) k j → IsGuest l k j ⊎ Blocks I l k j
+  after-either : (k j : ℕ) → After (comes_after I l) k j → IsGuest l k j ⊎ Blocks I l k j
   after-either k j h =
-      elim (either-true (comes_after I l Host k j) (blocks I l k j) h) [
-        | inl guest ↦ inl (after-guest k j guest)
+      elim (either-true (hosted_by (spot_at l.spots k).moor j) (blocks I l k j) h) [
+        | inl guest ↦ inl (hosted-is (spot_at l.spots k).moor j guest)
         | inr blocked ↦ inr (blocks-is k j blocked)
       ]
 
-  guest-too : (k j : ℕ) → IsGuest l k j → After (comes_after I l HostAndBlocked) k j
-  guest-too k j same = ap (λ b. b || blocks I l k j) (guest-after k j same)
+  guest-after : (k j : ℕ) → IsGuest l k j → After (comes_after I l) k j
+  guest-after k j same = or_left (hosted_by (spot_at l.spots k).moor j) (blocks I l k j) (ap (λ moor. hosted_by moor j) same ∙ eq-eqb j j refl)
 
-  blocked-too : (k j : ℕ) → Blocks I l k j → After (comes_after I l HostAndBlocked) k j
-  blocked-too k j h = either (comes_after I l Host k j) (blocks I l k j) (is-blocks k j h)
-    where
-      either : (a b : Bool) → b ≡ true → (a || b) ≡ true
-      either true b h = refl
-      either false b h = h
+  blocked-after : (k j : ℕ) → Blocks I l k j → After (comes_after I l) k j
+  blocked-after k j h = or_right (hosted_by (spot_at l.spots k).moor j) (blocks I l k j) (is-blocks k j h)
 
   -- each place of the deck once
   pub depth-long : length (by_depth I l) ≡ length l.ships
@@ -91,25 +80,14 @@ module _ (I : Instance) (l : Lockage) where
   pub order-from : (k : ℕ) → IsAmong (moor_order I l) k → k < length l.ships
   order-from k among = depth-from k (in_turn-from I l (length l.ships) (by_depth I l) depth-long k among)
 
-  module _ (ks : List ℕ) (all : (k : ℕ) → k < length l.ships → IsAmong ks k) (hosts : Respects (IsGuest l) ks) where
-    -- each host comes before its guests, where it does so in some order
-    pub order-hosts : Respects (IsGuest l) (moor_order I l)
-    order-hosts =
-        respects-weaker (IsGuest l) (After (comes_after I l Host)) guest-after (moor_order I l)
-        (in_turn-hosts I l ks (respects-weaker (After (comes_after I l Host)) (IsGuest l) after-guest ks hosts) (length l.ships) (by_depth I l) depth-long (λ k among. all k (depth-from k among)))
-
-    order-free : Respects (Blocks I l) ks → Respects (After (comes_after I l HostAndBlocked)) (moor_order I l)
-    order-free room =
-        in_turn-free I l ks (respects-either (IsGuest l) (Blocks I l) (After (comes_after I l HostAndBlocked)) after-either ks hosts room)
-        (length l.ships) (by_depth I l) depth-long (λ k among. all k (depth-from k among))
-
   -- WHERE ALL SHIPS CAN COME IN in some order, they can in this one.
   pub order-comes : (ks : List ℕ) → CanComeIn I l ks → CanComeIn I l (moor_order I l)
   order-comes ks can =
-      let free = order-free ks can.all can.hosts can.room in
+      let kept = respects-either (IsGuest l) (Blocks I l) (After (comes_after I l)) after-either ks can.hosts can.room in
+      let own = in_turn-respects I l ks kept (length l.ships) (by_depth I l) depth-long (λ k among. can.all k (depth-from k among)) in
       record {
         count = length-in_turn I l (length l.ships) (by_depth I l);
         all = order-among;
-        hosts = respects-weaker (IsGuest l) (After (comes_after I l HostAndBlocked)) guest-too (moor_order I l) free;
-        room = respects-weaker (Blocks I l) (After (comes_after I l HostAndBlocked)) blocked-too (moor_order I l) free;
+        hosts = respects-weaker (IsGuest l) (After (comes_after I l)) guest-after (moor_order I l) own;
+        room = respects-weaker (Blocks I l) (After (comes_after I l)) blocked-after (moor_order I l) own;
       }

@@ -1,6 +1,6 @@
 -- Taking those that are left one after the other.
 use Rattle.std.proofs.Common.{◌≡◌, ℕ, zero, suc, ◌<◌, ◌≤◌, Bool, true, false, ◌||◌, List, [], ◌∷◌, ◌++◌, length, get_or, cond, All, ◌⊎◌, inl, inr, refl, ap, sym, subst, ◌∙◌, arith, true≢false}
-use Rattle.std.proofs.lemmas.Bool.{or_left, or_right}
+use Rattle.std.proofs.lemmas.Bool.{or_left, or_right, lt-ltb}
 use Rattle.std.proofs.lemmas.Bool.Decides.{leb_tells}
 use Rattle.std.proofs.lemmas.List.{get_or_default, append_assoc}
 use Rattle.std.proofs.lemmas.List.Edits.{length-remove}
@@ -11,8 +11,7 @@ use Rattle.list_laws.proofs.Distinct.{among-or_not}
 use Rattle.lock_model.specs.declared.instance.Instance.{Instance}
 use Rattle.lock_model.specs.declared.plan.Lockage.{Lockage}
 use Rattle.day_play.specs.Order.{IsOrdered}
-use Rattle.day_play.specs.ComingIn.{Respects, comes_after, after_any, first_ready, index_or, next_of, in_turn}
-use Rattle.day_play.specs.declared.coming_in.Sooner.TheVariants.{Host, HostAndBlocked}
+use Rattle.day_play.specs.ComingIn.{Respects, comes_after, after_any, first_ready, next_of, in_turn}
 use Rattle.day_play.proofs.OrderLemmas.{ordered-above}
 
 -- all of these stand in that list
@@ -49,20 +48,6 @@ remove-all P [] (suc i) all = all
 remove-all P (k ∷ ks) zero all = All-tail P k ks all
 remove-all P (k ∷ ks) (suc i) all = All-cons P k (remove ks i) (All-head P k ks all) (remove-all P ks i (All-tail P k ks all))
 
-index_or-cases : (i k : ℕ) (ks : List ℕ) → ((i < length ks) × (index_or i k ks ≡ i)) ⊎ ((length ks ≤ i) × (index_or i k ks ≡ k))
-index_or-cases i k ks =
-    elim (leb_tells (suc i) (length ks)) [
-      | inl less ↦ inl (omega (arith, less.1), ap (λ b. cond b i k) less.0)
-      | inr more ↦ inr (omega (arith, more.1), ap (λ b. cond b i k) more.0)
-    ]
-
-index_or-within : (i k : ℕ) (ks : List ℕ) → k < length ks → index_or i k ks < length ks
-index_or-within i k ks within =
-    elim (index_or-cases i k ks) [
-      | inl here ↦ omega (arith, here.0, here.1)
-      | inr other ↦ omega (arith, other.1, within)
-    ]
-
 -- orders that respect a relation
 pub respects-weaker : (F G : ℕ → ℕ → Type 0) → ((k j : ℕ) → F k j → G k j) → (ks : List ℕ) → Respects G ks → Respects F ks
 respects-weaker F G weaker [] kept = tt
@@ -75,11 +60,11 @@ respects-either F G H either (k ∷ ks) first second = (
   respects-either F G H either ks first.1 second.1,
 )
 
-pub respects-ordered : (After : ℕ → ℕ → Type 0) (key : ℕ → ℕ) (low : ℕ) (ks : List ℕ) → IsOrdered key low ks → ((k j : ℕ) → IsAmong ks k → After k j → key j < key k) → Respects After ks
+pub respects-ordered : (After : ℕ → ℕ → Type 0) (key : ℕ → ℕ) (low : ℕ) (ks : List ℕ) → IsOrdered key low ks → ((k j : ℕ) → IsAmong ks k → IsAmong ks j → After k j → key j < key k) → Respects After ks
 respects-ordered After key low [] order less = tt
 respects-ordered After key low (k ∷ ks) order less = (
-  λ j among h. omega (arith, less k j (inl refl) h, ordered-above key (key k) (k ∷ ks) j (omega arith, order.1) among),
-  respects-ordered After key (key k) ks order.1 (λ i j among h. less i j (inr among) h),
+  λ j among h. omega (arith, less k j (inl refl) among h, ordered-above key (key k) (k ∷ ks) j (omega arith, order.1) among),
+  respects-ordered After key (key k) ks order.1 (λ i j first second h. less i j (inr first) (inr second) h),
 )
 
 module _ (after : ℕ → ℕ → Bool) where
@@ -143,8 +128,14 @@ module _ (after : ℕ → ℕ → Bool) where
 module _ (I : Instance) (l : Lockage) where
   pub next-within : (ks : List ℕ) → 1 ≤ length ks → next_of I l ks < length ks
   next-within ks some =
-      index_or-within (first_ready (comes_after I l HostAndBlocked) ks ks) (index_or (first_ready (comes_after I l Host) ks ks) 0 ks) ks
-      (index_or-within (first_ready (comes_after I l Host) ks ks) 0 ks some)
+      let ready = first_ready (comes_after I l) ks ks in
+      elim (leb_tells (suc ready) (length ks)) [
+        | inl less ↦ subst (λ b. cond b ready 0 < length ks) (sym less.0) less.1
+        | inr none ↦ subst (λ b. cond b ready 0 < length ks) (sym none.0) some
+      ]
+
+  next-ready : (ks : List ℕ) → first_ready (comes_after I l) ks ks < length ks → next_of I l ks ≡ first_ready (comes_after I l) ks ks
+  next-ready ks within = ap (λ b. cond b (first_ready (comes_after I l) ks ks) 0) (lt-ltb (first_ready (comes_after I l) ks ks) (length ks) within)
 
   pub left-long : (n : ℕ) (ks : List ℕ) → length ks ≡ suc n → length (remove ks (next_of I l ks)) ≡ n
   left-long n ks count = omega (arith, count, length-remove ks (next_of I l ks) (next-within ks (omega (arith, count))))
@@ -179,51 +170,13 @@ module _ (I : Instance) (l : Lockage) where
         | inr left ↦ inr (in_turn-among n (remove ks (next_of I l ks)) (left-long n ks count) j left)
       ]
 
-  -- what respects a relation at each step does so as a whole
-  in_turn-respects : (After : ℕ → ℕ → Type 0) (all : List ℕ)
-      → ((ks : List ℕ) → 1 ≤ length ks → AreAmong all ks → (j : ℕ) → IsAmong ks j → After (get_or ks (next_of I l ks) 0) j → ⊥)
-      → (n : ℕ) (ks : List ℕ) → length ks ≡ n → AreAmong all ks → Respects After (in_turn I l n ks)
-  in_turn-respects After all steps zero ks count known = tt
-  in_turn-respects After all steps (suc n) ks count known = (
-    λ j among. steps ks (omega (arith, count)) known j (in_turn-from (suc n) ks count j among),
-    in_turn-respects After all steps n (remove ks (next_of I l ks)) (left-long n ks count) (λ j among. known j (among-left ks (next_of I l ks) j among)),
-  )
-
-  host-too : (k j : ℕ) → After (comes_after I l Host) k j → After (comes_after I l HostAndBlocked) k j
-  host-too k j h = or_left (comes_after I l Host k j) _ h
-
-  -- EACH HOST COMES BEFORE ITS GUESTS, where some order has that
-  pub in_turn-hosts : (all : List ℕ) → Respects (After (comes_after I l Host)) all → (n : ℕ) (ks : List ℕ) → length ks ≡ n → AreAmong all ks
-      → Respects (After (comes_after I l Host)) (in_turn I l n ks)
-  in_turn-hosts all kept = in_turn-respects (After (comes_after I l Host)) all step
-    where
-      step : (ks : List ℕ) → 1 ≤ length ks → AreAmong all ks → (j : ℕ) → IsAmong ks j → After (comes_after I l Host) (get_or ks (next_of I l ks) 0) j → ⊥
-      step ks some known j among after =
-          let free = first_ready (comes_after I l HostAndBlocked) ks ks in
-          let hosted = first_ready (comes_after I l Host) ks ks in
-          elim (index_or-cases free (index_or hosted 0 ks) ks) [
-            | inl here ↦
-                let at : After (comes_after I l Host) (get_or ks free 0) j = subst (λ i. After (comes_after I l Host) (get_or ks i 0) j) here.1 after in
-                none-among (comes_after I l HostAndBlocked) (get_or ks free 0) ks (ready-at (comes_after I l HostAndBlocked) ks ks here.0) j among (host-too (get_or ks free 0) j at)
-            | inr other ↦ elim (index_or-cases hosted 0 ks) [
-              | inl here ↦
-                  let at : After (comes_after I l Host) (get_or ks hosted 0) j = subst (λ i. After (comes_after I l Host) (get_or ks i 0) j) (other.1 ∙ here.1) after in
-                  none-among (comes_after I l Host) (get_or ks hosted 0) ks (ready-at (comes_after I l Host) ks ks here.0) j among at
-              | inr none ↦ absurd (omega (arith, none.0, one-ready (comes_after I l Host) all ks some kept known))
-            ]
-          ]
-
-  -- THERE IS ROOM TO COME IN, where some order has it
-  pub in_turn-free : (all : List ℕ) → Respects (After (comes_after I l HostAndBlocked)) all → (n : ℕ) (ks : List ℕ) → length ks ≡ n → AreAmong all ks
-      → Respects (After (comes_after I l HostAndBlocked)) (in_turn I l n ks)
-  in_turn-free all kept = in_turn-respects (After (comes_after I l HostAndBlocked)) all step
-    where
-      step : (ks : List ℕ) → 1 ≤ length ks → AreAmong all ks → (j : ℕ) → IsAmong ks j → After (comes_after I l HostAndBlocked) (get_or ks (next_of I l ks) 0) j → ⊥
-      step ks some known j among after =
-          let free = first_ready (comes_after I l HostAndBlocked) ks ks in
-          elim (index_or-cases free (index_or (first_ready (comes_after I l Host) ks ks) 0 ks) ks) [
-            | inl here ↦
-                let at : After (comes_after I l HostAndBlocked) (get_or ks free 0) j = subst (λ i. After (comes_after I l HostAndBlocked) (get_or ks i 0) j) here.1 after in
-                none-among (comes_after I l HostAndBlocked) (get_or ks free 0) ks (ready-at (comes_after I l HostAndBlocked) ks ks here.0) j among at
-            | inr none ↦ absurd (omega (arith, none.0, one-ready (comes_after I l HostAndBlocked) all ks some kept known))
-          ]
+  -- NONE COMES BEFORE ONE AFTER WHICH IT HAS TO, where some order has that
+  pub in_turn-respects : (all : List ℕ) → Respects (After (comes_after I l)) all → (n : ℕ) (ks : List ℕ) → length ks ≡ n → AreAmong all ks → Respects (After (comes_after I l)) (in_turn I l n ks)
+  in_turn-respects all kept zero ks count known = tt
+  in_turn-respects all kept (suc n) ks count known =
+      let some : 1 ≤ length ks = omega (arith, count) in
+      let within = one-ready (comes_after I l) all ks some kept known in
+      let free = subst (λ i. after_any (comes_after I l) (get_or ks i 0) ks ≡ false) (sym (next-ready ks within)) (ready-at (comes_after I l) ks ks within) in (
+        λ j among. none-among (comes_after I l) (get_or ks (next_of I l ks) 0) ks free j (in_turn-from (suc n) ks count j among),
+        in_turn-respects all kept n (remove ks (next_of I l ks)) (left-long n ks count) (λ j among. known j (among-left ks (next_of I l ks) j among)),
+      )

@@ -12,8 +12,6 @@ use Rattle.lock_rules.specs.Arrival.{numbers_from}
 use Rattle.list_laws.specs.Among.{IsAmong}
 use Rattle.day_play.specs.Order.{put_each}
 use Rattle.day_play.specs.Lawful.{ship_of}
-use Rattle.day_play.specs.declared.coming_in.Sooner.{Sooner}
-use Rattle.day_play.specs.declared.coming_in.Sooner.TheVariants.{Host, HostAndBlocked}
 
 -- None of these stands before one after which it has to come.
 abbrev pub Respects : (ℕ → ℕ → Type 0) → List ℕ → Type 0
@@ -71,10 +69,9 @@ module _ (I : Instance) (l : Lockage) where
   abbrev pub blocks : ℕ → ℕ → Bool
   blocks k j = lies_before l.way k j && (begins_within k j && begins_within j k)
 
-  -- whether ship k has to come after ship j, where these are asked
-  abbrev pub comes_after : Sooner → ℕ → ℕ → Bool
-  comes_after Host k j = hosted_by (spot_at l.spots k).moor j
-  comes_after HostAndBlocked k j = hosted_by (spot_at l.spots k).moor j || blocks k j
+  -- whether ship k has to come after ship j: as its guest, or since it would block it
+  abbrev pub comes_after : ℕ → ℕ → Bool
+  comes_after k j = hosted_by (spot_at l.spots k).moor j || blocks k j
 
 -- whether k has to come after one of these
 abbrev pub after_any : (ℕ → ℕ → Bool) → ℕ → List ℕ → Bool
@@ -86,10 +83,6 @@ abbrev pub first_ready : (ℕ → ℕ → Bool) → List ℕ → List ℕ → �
 first_ready after js [] = 0
 first_ready after js (k ∷ ks) = if after_any after k js then suc (first_ready after js ks) else 0
 
--- the index i, where it is one of the list, and else k
-abbrev pub index_or : ℕ → ℕ → List ℕ → ℕ
-index_or i k ks = if nat_lt i (length ks) then i else k
-
 -- from where the ship at place k begins, along the chamber, to the end across from the gate by which it comes in: the deeper it lies the less
 abbrev pub end_distance : Instance → Lockage → Way → ℕ → ℕ
 end_distance I l Up k = (chamber_at I l.chamber).length - (spot_at l.spots k).x
@@ -100,9 +93,9 @@ module _ (I : Instance) (l : Lockage) where
   abbrev pub by_depth : List ℕ
   by_depth = put_each (end_distance I l l.way) [] (numbers_from 0 (length l.ships))
 
-  -- the index of the next of these: the first that is hosted and blocks none of them, else the first that is hosted
+  -- the index of the next of these: of the first that has to come after none of them, else 0
   abbrev pub next_of : List ℕ → ℕ
-  next_of ks = index_or (first_ready (comes_after I l HostAndBlocked) ks ks) (index_or (first_ready (comes_after I l Host) ks ks) 0 ks) ks
+  next_of ks = let ready = first_ready (comes_after I l) ks ks in if nat_lt ready (length ks) then ready else 0
 
   -- n of these, one after the other
   abbrev pub in_turn : ℕ → List ℕ → List ℕ

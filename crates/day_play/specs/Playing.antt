@@ -15,22 +15,17 @@ use Rattle.lock_rules.specs.Timetable.{first_free}
 use Rattle.chamber_times.specs.Walk.{line_places}
 use Rattle.day_play.specs.Order.{put_each, minute_of}
 use Rattle.day_play.specs.Lawful.{ship_of}
-use Rattle.day_play.specs.ComingIn.{Respects, IsGuest, CanComeIn, by_depth, in_turn}
+use Rattle.day_play.specs.ComingIn.{CanComeIn, by_depth, in_turn}
 use Rattle.day_play.specs.declared.beat.Act.TheVariants.{Turn, Moor, Go, Done}
 use Rattle.day_play.specs.declared.beat.Beat.{Beat}
 
--- the order in which the ships of a lockage come in: of those that aren't moored yet the deepest first whose host is moored and that blocks none of them
+-- the order in which the ships of a lockage come in: of those that aren't moored yet the deepest whose host is moored and that blocks none of them
 abbrev pub moor_order : Instance → Lockage → List ℕ
 moor_order I l = in_turn I l (length l.ships) (by_depth I l)
 
--- What that order keeps: each host comes before its guests; and where there is an order in which all ships can come in, they can in this one.
-pub record ComesIn (I : Instance) (l : Lockage) : Type 0 where
-  pub hosts : Respects (IsGuest l) (moor_order I l)
-  pub room : (ks : List ℕ) → CanComeIn I l ks → CanComeIn I l (moor_order I l)
-
--- so of all lockages of a plan
-abbrev pub AreComingIn : Instance → Plan → Type 0
-AreComingIn I P = (p : ℕ) → p < length P.lockages → ComesIn I (lockage_at P p)
+-- in each lockage of the plan all ships can come in in that order
+abbrev pub CanAllComeIn : Instance → Plan → Type 0
+CanAllComeIn I P = (p : ℕ) → p < length P.lockages → CanComeIn I (lockage_at P p) (moor_order I (lockage_at P p))
 
 -- the beat of ship at place k
 abbrev pub moor_beat : ℕ → Lockage → ℕ → Beat

@@ -6,15 +6,6 @@ ghost use Rattle.day_play.specs.ComingIn.{hosted_by, ends_by, begins_within, lie
 
 use lock_model::{Instance, Lockage, Moor, Ship, Way};
 
-/// Which ships of its lockage a ship has to let in first.
-#[derive(Clone, Copy)]
-pub(crate) enum Sooner {
-    /// Its host alone.
-    Host,
-    /// Its host, and those that it would block.
-    HostAndBlocked,
-}
-
 /// The ship at a place of the lockage's deck.
 fn ship_of<'a>(instance: &'a Instance, lockage: &Lockage, k: u8) -> &'a Ship
     requires whole { IsWholeLockage instance.now lockage.now }
@@ -84,29 +75,25 @@ fn blocks(instance: &Instance, lockage: &Lockage, k: u8, j: u8) -> bool
         && begins_within(instance, lockage, j, k)
 }
 
-/// Whether ship `k` has to come in after ship `j`.
-fn comes_after(instance: &Instance, lockage: &Lockage, sooner: Sooner, k: u8, j: u8) -> bool
+/// Whether ship `k` has to come in after ship `j`: as its guest, or since it would block it.
+fn comes_after(instance: &Instance, lockage: &Lockage, k: u8, j: u8) -> bool
     requires whole { IsWholeLockage instance.now lockage.now }
     requires k_within { k < length lockage.now.ships }
     requires j_within { j < length lockage.now.ships }
-    ensures { result ≡ comes_after instance.now lockage.now sooner k j }
+    ensures { result ≡ comes_after instance.now lockage.now k j }
 {
-    let moor = lockage.spots.as_slice()[k as usize].moor;
-    match sooner {
-        Sooner::Host => hosted_by(moor, j),
-        Sooner::HostAndBlocked => hosted_by(moor, j) || blocks(instance, lockage, k, j),
-    }
+    hosted_by(lockage.spots.as_slice()[k as usize].moor, j) || blocks(instance, lockage, k, j)
 }
 
 /// Whether ship `k` has to come in after one of those at these places.
-fn after_any(instance: &Instance, lockage: &Lockage, sooner: Sooner, k: u8, places: &[u8]) -> bool
+fn after_any(instance: &Instance, lockage: &Lockage, k: u8, places: &[u8]) -> bool
     requires whole { IsWholeLockage instance.now lockage.now }
     requires within { k < length lockage.now.ships }
     requires known { All (λ j. j < length lockage.now.ships) places.now }
-    ensures { result ≡ after_any (comes_after instance.now lockage.now sooner) k places.now }
+    ensures { result ≡ after_any (comes_after instance.now lockage.now) k places.now }
 {
     for &j in places {
-        if comes_after(instance, lockage, sooner, k, j) {
+        if comes_after(instance, lockage, k, j) {
             return true;
         }
     }
@@ -115,19 +102,14 @@ fn after_any(instance: &Instance, lockage: &Lockage, sooner: Sooner, k: u8, plac
 
 /// The index of the first of these places whose ship has to come in after none of them, or their
 /// number where there is none.
-pub(crate) fn first_ready(
-    instance: &Instance,
-    lockage: &Lockage,
-    sooner: Sooner,
-    places: &[u8],
-) -> usize
+pub(crate) fn first_ready(instance: &Instance, lockage: &Lockage, places: &[u8]) -> usize
     requires whole { IsWholeLockage instance.now lockage.now }
     requires known { All (λ k. k < length lockage.now.ships) places.now }
-    ensures value { result ≡ first_ready (comes_after instance.now lockage.now sooner) places.now places.now }
+    ensures value { result ≡ first_ready (comes_after instance.now lockage.now) places.now places.now }
     ensures within { result ≤ length places.now }
 {
     for (i, &k) in places.iter().enumerate() {
-        if !after_any(instance, lockage, sooner, k, places) {
+        if !after_any(instance, lockage, k, places) {
             return i;
         }
     }
