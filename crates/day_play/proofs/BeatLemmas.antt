@@ -23,9 +23,11 @@ use Rattle.lock_rules.proofs.LegalLemmas.{legal-chambers, legal-ships}
 use Rattle.chamber_times.specs.Walk.{lockages_at, line_places}
 use Rattle.chamber_times.proofs.WalkLemmas.{lockages_at-line}
 use Rattle.day_play.specs.Order.{put_by, put_each, minute_of}
-use Rattle.day_play.specs.Playing.{moor_beat, moor_beats, moor_order, quay_distance, turn_beats, go_beat, done_beat, lockage_beats, line_beats, chamber_beats, beats_of}
+use Rattle.day_play.specs.Playing.{moor_beat, moor_beats, moor_order, turn_beats, go_beat, done_beat, lockage_beats, line_beats, chamber_beats, beats_of}
+use Rattle.day_play.specs.ComingIn.{by_depth}
 use Rattle.day_play.specs.declared.beat.Beat.{Beat}
 use Rattle.day_play.proofs.OrderLemmas.{length-put_each, put_each-append}
+use Rattle.day_play.proofs.InTurnLemmas.{length-in_turn}
 use Rattle.day_play.specs.declared.day.TheConstants.{BEATS}
 
 pub drop_next : (xs : List ℕ) (i : ℕ) → i < length xs → drop i xs ≡ get_or xs i 0 ∷ drop (i + 1) xs
@@ -82,7 +84,7 @@ module _ (I : Instance) where
   turns-few p l from High Down = omega arith
 
   order-long : (l : Lockage) → length (moor_order I l) ≡ length l.ships
-  order-long l = omega (arith, length-put_each (quay_distance I l) [] (numbers_from 0 (length l.ships)), length-numbers 0 (length l.ships))
+  order-long l = length-in_turn I l (length l.ships) (by_depth I l)
 
   lockage-few : (p : ℕ) (l : Lockage) (stand : Stand) (from : ℕ) → 1 ≤ length l.ships → length (lockage_beats I p l stand from) ≤ share l
   lockage-few p l stand from some =

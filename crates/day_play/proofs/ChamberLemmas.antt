@@ -1,5 +1,5 @@
 -- What a chamber does in its own order: the beats of each lockage of a legal plan are lawful there.
-use Rattle.std.proofs.Common.{◌≡◌, ◌≢◌, ℕ, zero, suc, ◌+◌, ◌<◌, ◌≤◌, List, [], ◌∷◌, ◌++◌, length, map, All, ◌⊎◌, inl, inr, refl, ap, sym, subst, ◌∙◌, arith, slice_index_or}
+use Rattle.std.proofs.Common.{◌≡◌, ◌≢◌, ℕ, zero, suc, ◌+◌, ◌*◌, ◌-◌, ◌<◌, ◌≤◌, List, [], ◌∷◌, ◌++◌, length, map, All, ◌⊎◌, inl, inr, refl, ap, sym, subst, ◌∙◌, arith, slice_index_or}
 use Rattle.std.proofs.lemmas.Bool.Decides.{leb_tells}
 use Rattle.std.proofs.lemmas.List.{length-map, append_assoc}
 use Rattle.std.proofs.lemmas.List.Elements.{All-cons, All-nil}
@@ -28,17 +28,21 @@ use Rattle.lock_rules.specs.Plan.{IsLegalLockage}
 use Rattle.lock_rules.proofs.FreeLemmas.{first_free-from, first_free-free}
 use Rattle.lock_rules.proofs.TimetableLemmas.{turned_at-least, closures_kept}
 use Rattle.chamber_times.specs.Walk.{lockages_at}
-use Rattle.day_play.specs.Order.{IsOrdered}
+use Rattle.day_play.specs.Order.{put_each, IsOrdered}
 use Rattle.list_laws.specs.Among.{IsAmong}
 use Rattle.day_play.specs.State.{Moored, Idle, ChamberState, other_side, chamber_after}
 use Rattle.day_play.specs.Lawful.{IsOf, HasMoored, MayMoor, MayTurn, ship_of}
-use Rattle.day_play.specs.Playing.{gap_to, quay_distance, moor_beats, moor_order, turn_beats, go_beat, done_beat, lockage_beats, line_beats}
+use Rattle.day_play.specs.ComingIn.{Respects, IsGuest, LiesBefore, Blocks, CanComeIn}
+use Rattle.day_play.specs.Playing.{moor_beats, moor_order, turn_beats, go_beat, done_beat, lockage_beats, line_beats}
 use Rattle.day_play.specs.declared.beat.Act.TheVariants.{Moor}
 use Rattle.day_play.specs.declared.beat.Beat.{Beat}
 use Rattle.lock_rules.specs.Arrival.{numbers_from}
-use Rattle.lock_rules.proofs.LineLemmas.{length-numbers}
 use Rattle.lock_rules.proofs.BoundLemmas.{IsAmong-numbers}
-use Rattle.day_play.proofs.OrderLemmas.{ordered-above, put_each-ordered, put_each-among, put_each-from, length-put_each}
+use Rattle.lock_rules.proofs.LineLemmas.{length-numbers}
+use Rattle.std.proofs.Math.Nat.{suc-mul, mul-le-mul_right}
+use Rattle.day_play.proofs.OrderLemmas.{length-put_each, put_each-ordered, put_each-among, put_each-from}
+use Rattle.day_play.proofs.InTurnLemmas.{respects-ordered}
+use Rattle.day_play.proofs.ComingLemmas.{order-from, order-comes}
 use Rattle.day_play.proofs.RunLemmas.{RunsHere}
 
 pub apart-swap : (d : Deck) (s : Size) (p : Spot) (t : Size) (q : Spot) → AreApart d s p t q → AreApart d t q s p
@@ -54,6 +58,31 @@ size_at-of : (f : ℕ → Size) (ships : List ℕ) (k : ℕ) → k < length ship
 size_at-of f [] k within = absurd (omega arith)
 size_at-of f (s ∷ ships) zero within = refl
 size_at-of f (s ∷ ships) (suc k) within = size_at-of f ships k (omega arith)
+
+-- across the chamber, from the quay of the rank to a ship
+abbrev gap_to : Rank → ℕ → ℕ → ℕ → ℕ
+gap_to Left y width across = y
+gap_to Right y width across = across - (y + width)
+
+-- from its quay to the ship at place k of the lockage
+abbrev quay_distance : Instance → Lockage → ℕ → ℕ
+quay_distance I l k = gap_to (spot_at l.spots k).rank (spot_at l.spots k).y (ship_at I (ship_of l k)).width (chamber_at I l.chamber).width
+
+gap-within : (rank : Rank) (y width across : ℕ) → y + width ≤ across → gap_to rank y width across ≤ across
+gap-within Left y width across inside = omega (arith, inside)
+gap-within Right y width across inside = omega arith
+
+-- along the chamber, from a ship's end that came in first to the end across from the gate
+abbrev far_gap : Instance → Lockage → Way → ℕ → ℕ
+far_gap I l Up k = (chamber_at I l.chamber).length - ((spot_at l.spots k).x + (ship_at I (ship_of l k)).length)
+far_gap I l Down k = (spot_at l.spots k).x
+
+-- numbers of two digits, by the first digit and then by the second
+deeper : (m a b x y : ℕ) → x < m → a < b → a * m + x < b * m + y
+deeper m a b x y small less = omega (arith, small, suc-mul a m, mul-le-mul_right m less)
+
+no-less : (m a b x y : ℕ) → a ≤ b → x < y → a * m + x < b * m + y
+no-less m a b x y less more = omega (arith, more, mul-le-mul_right m less)
 
 -- across the chamber a host lies nearer to their quay than its guest
 nearer : (d : Deck) (s : Size) (p : Spot) (t : Size) (q : Spot) (rank : Rank) (across : ℕ) → 1 ≤ t.width → q.y + t.width ≤ across → IsAtSide d s p t q rank → gap_to rank q.y t.width across < gap_to rank p.y s.width across
@@ -117,12 +146,69 @@ module _ (I : Instance) (P : Plan) (p : ℕ) (known : p < length P.lockages) (le
       ∙ ap (λ rank. gap_to rank (spot_at l.spots h).y (ship_at I (ship_of l h)).width (chamber_at I l.chamber).width) (sym at.2.rank) in
       (inside, omega (arith, less, mine, its))
 
+  -- a host lies no less deep than its guest
+  host-deeper : (way : Way) (k h : ℕ) → k < length l.ships → IsGuest l k h → far_gap I l way h ≤ far_gap I l way k
+  host-deeper way k h within guest =
+      let at : IsMoored d l.spots k (Ship h) = subst (IsMoored d l.spots k) guest (legal.placed.berthed k (in_deck k within)) in
+      let mine : (size_at d k).length ≡ (ship_at I (ship_of l k)).length = ap (λ (s : Size). s.length) (size k within) in
+      let its : (size_at d h).length ≡ (ship_at I (ship_of l h)).length = ap (λ (s : Size). s.length) (size h (host k h within guest).0) in
+      elim way as (λ way. far_gap I l way h ≤ far_gap I l way k) [
+        | Up ↦ omega (arith, at.2.far, mine, its)
+        | Down ↦ at.2.near
+      ]
+
+  -- whom a ship would block lies deeper
+  blocked-deeper : (way : Way) (k j : ℕ) → j < length l.ships → LiesBefore I l way k j → far_gap I l way j < far_gap I l way k
+  blocked-deeper Up k j inside before =
+      let its : (size_at d j).length ≡ (ship_at I (ship_of l j)).length = ap (λ (s : Size). s.length) (size j inside) in
+      omega (arith, before, its, (I.limits.ship (ship_of l j) no_ship (legal.known j 0 inside)).length.0, (legal.placed.inside j (in_deck j inside)).1)
+  blocked-deeper Down k j inside before = omega (arith, before, (I.limits.ship (ship_of l j) no_ship (legal.known j 0 inside)).length.0)
+
+  quay-within : (k : ℕ) → k < length l.ships → quay_distance I l k < suc (chamber_at I l.chamber).width
+  quay-within k inside =
+      let its : (size_at d k).width ≡ (ship_at I (ship_of l k)).width = ap (λ (s : Size). s.width) (size k inside) in
+      omega (arith, gap-within (spot_at l.spots k).rank (spot_at l.spots k).y (ship_at I (ship_of l k)).width (chamber_at I l.chamber).width (omega (arith, its, (legal.placed.inside k (in_deck k inside)).2)))
+
+  -- by depth, and of equally deep ones by distance from the quay
+  abbrev place_key : ℕ → ℕ
+  place_key k = far_gap I l l.way k * suc (chamber_at I l.chamber).width + quay_distance I l k
+
+  abbrev by_place : List ℕ
+  by_place = put_each place_key [] (numbers_from 0 (length l.ships))
+
+  place-within : (k : ℕ) → IsAmong by_place k → k < length l.ships
+  place-within k among =
+      elim (put_each-from place_key [] (numbers_from 0 (length l.ships)) k among) [
+        | inl none ↦ absurd none
+        | inr number ↦ omega (arith, (among-numbers 0 (length l.ships) k number).1)
+      ]
+
+  place-ordered : IsOrdered place_key 0 by_place
+  place-ordered = put_each-ordered place_key [] (numbers_from 0 (length l.ships)) tt
+
+  -- in that order all ships can come in
+  by_place-comes : CanComeIn I l by_place
+  by_place-comes = record {
+    count = omega (arith, length-put_each place_key [] (numbers_from 0 (length l.ships)), length-numbers 0 (length l.ships));
+    all = λ k inside. put_each-among place_key [] (numbers_from 0 (length l.ships)) k (IsAmong-numbers 0 (length l.ships) k (omega arith) (omega (arith, inside)));
+    hosts = respects-ordered (IsGuest l) place_key 0 by_place place-ordered (λ k h first second guest.
+        let within = place-within k first in
+        no-less (suc (chamber_at I l.chamber).width) (far_gap I l l.way h) (far_gap I l l.way k) (quay_distance I l h) (quay_distance I l k) (host-deeper l.way k h within guest) (host k h within guest).1);
+    room = respects-ordered (Blocks I l) place_key 0 by_place place-ordered (λ k j first second blocked.
+        let inside = place-within j second in
+        deeper (suc (chamber_at I l.chamber).width) (far_gap I l l.way j) (far_gap I l l.way k) (quay_distance I l j) (quay_distance I l k) (quay-within j inside) (blocked-deeper l.way k j inside blocked.before));
+  }
+
+  -- ALL SHIPS CAN COME IN in the order in which they moor.
+  pub order-can : CanComeIn I l (moor_order I l)
+  order-can = order-comes I l by_place by_place-comes
+
   module _ (arrived : All (λ s. (ship_at I s).arrival ≤ l.start) l.ships) where
-    -- the next ship may be moored where all nearer ones are
-    may : (k low : ℕ) (ks : List ℕ) (s : ChamberState) → s.going ≡ Idle → All (λ (m : Moored). m.lockage ≡ p) s.moored → length s.moored + length (k ∷ ks) ≡ length l.ships
-        → k < length l.ships → IsOrdered (quay_distance I l) low (k ∷ ks) → ((j : ℕ) → j < length l.ships → HasMoored s p l j ⊎ IsAmong (k ∷ ks) j)
+    -- the next ship may be moored where its host doesn't come later
+    may : (k : ℕ) (ks : List ℕ) (s : ChamberState) → s.going ≡ Idle → All (λ (m : Moored). m.lockage ≡ p) s.moored → length s.moored + length (k ∷ ks) ≡ length l.ships
+        → k < length l.ships → Respects (IsGuest l) (k ∷ ks) → ((j : ℕ) → j < length l.ships → HasMoored s p l j ⊎ IsAmong (k ∷ ks) j)
         → MayMoor I P l.start l.chamber p (ship_of l k) s
-    may k low ks s idle same count within order ahead = record {
+    may k ks s idle same count within order ahead = record {
       lockage = of;
       start = refl;
       idle = idle;
@@ -137,27 +223,27 @@ module _ (I : Instance) (P : Plan) (p : ℕ) (known : p < length P.lockages) (le
         inside = legal.placed.inside k (in_deck k within);
         apart = λ j inside other moored. apart k j within inside other;
         berthed = legal.placed.berthed k (in_deck k within);
-        host = λ h moored. before h (host k h within moored);
+        host = λ h guest. before h guest;
         clear = λ j inside other moored. together k j within inside other;
       };
     }
       where
-        before : (h : ℕ) → (h < length l.ships) × (quay_distance I l h < quay_distance I l k) → HasMoored s p l h
-        before h (inside, less) =
-            elim (ahead h inside) [
+        before : (h : ℕ) → IsGuest l k h → HasMoored s p l h
+        before h guest =
+            elim (ahead h (host k h within guest).0) [
               | inl moored ↦ moored
-              | inr later ↦ absurd (omega (arith, less, ordered-above (quay_distance I l) (quay_distance I l k) (k ∷ ks) h (omega arith, order.1) later))
+              | inr later ↦ absurd (order.0 h later guest)
             ]
 
-    moors-run : (low : ℕ) (ks : List ℕ) (s : ChamberState) (rest : List Beat) → s.going ≡ Idle → All (λ (m : Moored). m.lockage ≡ p) s.moored
-        → length s.moored + length ks ≡ length l.ships → ((k : ℕ) → IsAmong ks k → k < length l.ships) → IsOrdered (quay_distance I l) low ks
+    moors-run : (ks : List ℕ) (s : ChamberState) (rest : List Beat) → s.going ≡ Idle → All (λ (m : Moored). m.lockage ≡ p) s.moored
+        → length s.moored + length ks ≡ length l.ships → ((k : ℕ) → IsAmong ks k → k < length l.ships) → Respects (IsGuest l) ks
         → ((j : ℕ) → j < length l.ships → HasMoored s p l j ⊎ IsAmong ks j)
         → ((t : ChamberState) → t.side ≡ s.side → t.free ≡ s.free → t.going ≡ Idle → ((j : ℕ) → j < length l.ships → HasMoored t p l j) → RunsHere I P t rest)
         → RunsHere I P s (moor_beats p l ks ++ rest)
-    moors-run low [] s rest idle same count within order ahead next = next s refl refl idle (λ j inside. elim (ahead j inside) [ inl moored ↦ moored | inr none ↦ absurd none ])
-    moors-run low (k ∷ ks) s rest idle same count within order ahead next = (
-      may k low ks s idle same count (within k (inl refl)) order ahead,
-      moors-run (quay_distance I l k) ks (chamber_after I P l.start l.chamber p (Moor (ship_of l k)) s) rest idle
+    moors-run [] s rest idle same count within order ahead next = next s refl refl idle (λ j inside. elim (ahead j inside) [ inl moored ↦ moored | inr none ↦ absurd none ])
+    moors-run (k ∷ ks) s rest idle same count within order ahead next = (
+      may k ks s idle same count (within k (inl refl)) order ahead,
+      moors-run ks (chamber_after I P l.start l.chamber p (Moor (ship_of l k)) s) rest idle
           (All-cons (λ (m : Moored). m.lockage ≡ p) (record { ship = ship_of l k; lockage = p }) s.moored refl same)
           (omega (arith, count))
           (λ j among. within j (inr among))
@@ -220,17 +306,13 @@ module _ (I : Instance) (P : Plan) (p : ℕ) (known : p < length P.lockages) (le
         let ends = go_beat p l ∷ done_beat I p l ∷ [] in
         let all : (ts ++ (ms ++ ends)) ++ rest ≡ ts ++ (ms ++ (ends ++ rest)) = append_assoc ts (ms ++ ends) rest ∙ ap (λ xs. ts ++ xs) (append_assoc ms ends rest) in
         subst (RunsHere I P (record { side = stand; free = from; moored = []; going = Idle })) (sym all)
-        (turn-run stand from l.way (ms ++ (ends ++ rest)) lawful.turned lawful.later (λ s empty idle side free. moors-run 0 (moor_order I l) s (ends ++ rest) idle
+        (turn-run stand from l.way (ms ++ (ends ++ rest)) lawful.turned lawful.later (λ s empty idle side free. moors-run (moor_order I l) s (ends ++ rest) idle
         (subst (All (λ (m : Moored). m.lockage ≡ p)) (sym empty) (All-nil (λ (m : Moored). m.lockage ≡ p)))
-        (omega (arith, ap length empty, length-put_each (quay_distance I l) [] (numbers_from 0 (length l.ships)), length-numbers 0 (length l.ships)))
-        (λ k among. ordered_place k (put_each-from (quay_distance I l) [] (numbers_from 0 (length l.ships)) k among))
-        (put_each-ordered (quay_distance I l) [] (numbers_from 0 (length l.ships)) tt)
-        (λ j inside. inr (put_each-among (quay_distance I l) [] (numbers_from 0 (length l.ships)) j (IsAmong-numbers 0 (length l.ships) j (omega arith) (omega (arith, inside)))))
+        (omega (arith, ap length empty, order-can.count))
+        (order-from I l)
+        order-can.hosts
+        (λ j inside. inr (order-can.all j inside))
         (λ t tside tfree tidle moored. goes-run t rest tidle moored (tside ∙ side) (omega (arith, tfree, free)) lawful.free next)))
-      where
-        ordered_place : (k : ℕ) → IsAmong [] k ⊎ IsAmong (numbers_from 0 (length l.ships)) k → k < length l.ships
-        ordered_place k (inl none) = absurd none
-        ordered_place k (inr among) = omega (arith, (among-numbers 0 (length l.ships) k among).1)
 
 -- lockage q of the plan is legal, and of chamber c
 pub record IsGood (I : Instance) (P : Plan) (c q : ℕ) : Type 0 where

@@ -26,12 +26,12 @@ use Rattle.day_play.specs.Order.{minute_of, IsOrdered}
 use Rattle.list_laws.specs.Among.{IsAmong}
 use Rattle.day_play.specs.State.{opening, opening_chamber}
 use Rattle.day_play.specs.Lawful.{IsLawfulDay}
-use Rattle.day_play.specs.Playing.{moor_beats, moor_order, turn_beats, go_beat, done_beat, lockage_beats, line_beats, chamber_beats, beats_by, beats_of, day_of}
+use Rattle.day_play.specs.Playing.{CanAllComeIn, moor_beats, moor_order, turn_beats, go_beat, done_beat, lockage_beats, line_beats, chamber_beats, beats_by, beats_of, day_of}
 use Rattle.day_play.specs.declared.beat.Beat.{Beat}
 use Rattle.day_play.proofs.OrderLemmas.{ordered-lower, put_each-ordered, put_each-among, length-put_each}
 use Rattle.day_play.proofs.RunLemmas.{beats_at, moors_in, RunsHere, IsFresh, idle_not_under, runs-lawful, runs-still, done-gone, done-served}
 use Rattle.day_play.proofs.BeatLemmas.{beats-few}
-use Rattle.day_play.proofs.ChamberLemmas.{IsGood, line-run}
+use Rattle.day_play.proofs.ChamberLemmas.{order-can, IsGood, line-run}
 use Rattle.day_play.proofs.MixLemmas.{own-once, others-after}
 use Rattle.day_play.proofs.PlaceLemmas.{line_places-from, line_places-among, moors_in-put_each, moors-few}
 
@@ -206,3 +206,7 @@ module _ (I : Instance) (P : Plan) (legal : IsLegal I P) where
 -- so is a list that is that day
 pub played_lawful : (I : Instance) (P : Plan) (d : List Beat) → IsLegal I P → d ≡ day_of I P → IsLawfulDay I P d
 played_lawful I P d legal same = subst (IsLawfulDay I P) (sym same) (day_lawful I P legal)
+
+-- and in each of its lockages all ships can come in as they moor
+pub played_comes : (I : Instance) (P : Plan) → IsLegal I P → CanAllComeIn I P
+played_comes I P legal p within = order-can I P p within (legal.lockage p no_lockage within)

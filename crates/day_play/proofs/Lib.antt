@@ -1,6 +1,9 @@
 pub mod OrderLemmas
+pub mod InTurnLemmas
+pub mod ComingLemmas
 pub mod RunLemmas
 pub mod BeatLemmas
+pub mod ReadyLemmas
 pub mod ChamberLemmas
 pub mod MixLemmas
 pub mod PlaceLemmas

@@ -1,5 +1,5 @@
 -- The places of a chamber's line, and the ships that are moored for its lockages.
-use Rattle.std.proofs.Common.{◌≡◌, ℕ, suc, ◌+◌, ◌<◌, ◌≤◌, List, [], ◌∷◌, ◌++◌, length, filter, cond, Bool, true, false, nat_eq, nat_le, inl, inr, refl, ap, sym, subst, ◌∙◌, arith, sum_by, eq-eqb, get_or}
+use Rattle.std.proofs.Common.{◌≡◌, ℕ, zero, suc, ◌+◌, ◌<◌, ◌≤◌, List, [], ◌∷◌, ◌++◌, length, filter, cond, Bool, true, false, nat_eq, nat_le, inl, inr, refl, ap, sym, subst, ◌∙◌, arith, sum_by, eq-eqb, get_or}
 use Rattle.std.proofs.lemmas.Bool.{eqb-true}
 use Rattle.std.proofs.lemmas.Bool.Decides.{leb_tells}
 use Rattle.std.proofs.lemmas.List.Sums.{sum_by-cons}
@@ -26,8 +26,12 @@ use Rattle.chamber_times.proofs.WalkLemmas.{lockages_at-line}
 use Rattle.day_play.specs.Order.{put_by, put_each, minute_of, IsOrdered}
 use Rattle.list_laws.specs.Among.{IsAmong}
 use Rattle.day_play.specs.Lawful.{ship_of}
-use Rattle.day_play.specs.Playing.{quay_distance, moor_order, moor_beat, moor_beats, turn_beats, go_beat, done_beat, lockage_beats, line_beats, chamber_beats, beats_of}
+use Rattle.day_play.specs.ComingIn.{end_distance, by_depth, next_of, in_turn}
+use Rattle.day_play.specs.Playing.{moor_order, moor_beat, moor_beats, turn_beats, go_beat, done_beat, lockage_beats, line_beats, chamber_beats, beats_of}
 use Rattle.day_play.specs.declared.beat.Beat.{Beat}
+use Rattle.std.specs.List.{remove}
+use Rattle.day_play.proofs.InTurnLemmas.{next-within, left-long}
+use Rattle.day_play.proofs.ComingLemmas.{depth-long}
 use Rattle.day_play.proofs.RunLemmas.{moor_count, moors_in}
 
 module _ (P : Plan) where
@@ -198,6 +202,23 @@ module _ (p : ℕ) (l : Lockage) (key : ℕ → ℕ) (i : ℕ) where
       add : (a b c d e : ℕ) → a ≡ b + e → b ≡ d + c → a ≡ c + (d + e)
       add a b c d e first second = omega (arith, first, second)
 
+  moors-remove : (ks : List ℕ) (at : ℕ) → at < length ks → moors_in (moor_beats p l ks) i ≡ moor_count (moor_beat p l (get_or ks at 0)).act i + moors_in (moor_beats p l (remove ks at)) i
+  moors-remove [] at within = absurd (omega (arith, within))
+  moors-remove (k ∷ ks) zero within = refl
+  moors-remove (k ∷ ks) (suc at) within =
+      swap (moor_count (moor_beat p l k).act i) (moors_in (moor_beats p l ks) i) (moor_count (moor_beat p l (get_or ks at 0)).act i) (moors_in (moor_beats p l (remove ks at)) i) (moors-remove ks at (omega (arith, within)))
+    where
+      swap : (a b c d : ℕ) → b ≡ c + d → a + b ≡ c + (a + d)
+      swap a b c d e = omega (arith, e)
+
+  moors-in_turn : (I : Instance) (n : ℕ) (ks : List ℕ) → length ks ≡ n → moors_in (moor_beats p l (in_turn I l n ks)) i ≡ moors_in (moor_beats p l ks) i
+  moors-in_turn I zero [] count = refl
+  moors-in_turn I zero (k ∷ ks) count = absurd (omega (arith, count))
+  moors-in_turn I (suc n) ks count =
+      let at = next_of I l ks in
+      let within = next-within I l ks (omega (arith, count)) in
+      ap (λ n. moor_count (moor_beat p l (get_or ks at 0)).act i + n) (moors-in_turn I n (remove ks at) (left-long I l n ks count)) ∙ sym (moors-remove ks at within)
+
   moors-numbers : (low : ℕ) (ships : List ℕ) → ((k : ℕ) → ship_of l (low + k) ≡ get_or ships k 0) → moors_in (moor_beats p l (numbers_from low (length ships))) i ≡ times_in ships i
   moors-numbers low [] reads = refl
   moors-numbers low (s ∷ ships) reads =
@@ -218,8 +239,9 @@ module _ (I : Instance) (i : ℕ) where
   moors-order p l =
       omega (
         arith,
-        moors-put_each p l (quay_distance I l) i [] (numbers_from 0 (length l.ships)),
-        moors-numbers p l (quay_distance I l) i 0 l.ships (λ k. (let same : 0 + k ≡ k = omega arith in ap (ship_of l) same)),
+        moors-in_turn p l (end_distance I l l.way) i I (length l.ships) (by_depth I l) (depth-long I l),
+        moors-put_each p l (end_distance I l l.way) i [] (numbers_from 0 (length l.ships)),
+        moors-numbers p l (end_distance I l l.way) i 0 l.ships (λ k. (let same : 0 + k ≡ k = omega arith in ap (ship_of l) same)),
       )
 
   lockage-moors : (p : ℕ) (l : Lockage) (stand : Stand) (from : ℕ) → moors_in (lockage_beats I p l stand from) i ≡ times_in l.ships i

@@ -1,10 +1,7 @@
 -- The day that is played of a legal plan.
-use Rattle.std.specs.Prelude.{ℕ, ◌+◌, ◌-◌, List, [], ◌∷◌, ◌++◌, length, map}
-use Rattle.lock_model.specs.Fleet.{ship_at, chamber_at}
-use Rattle.lock_model.specs.Placement.{spot_at}
+use Rattle.std.specs.Prelude.{ℕ, ◌+◌, ◌<◌, List, [], ◌∷◌, ◌++◌, length, map}
+use Rattle.lock_model.specs.Fleet.{chamber_at}
 use Rattle.lock_model.specs.declared.instance.Instance.{Instance}
-use Rattle.lock_model.specs.declared.placement.Rank.{Rank}
-use Rattle.lock_model.specs.declared.placement.Rank.TheVariants.{Left, Right}
 use Rattle.lock_model.specs.declared.plan.Lockage.{Lockage}
 use Rattle.lock_model.specs.declared.plan.Plan.{Plan}
 use Rattle.lock_model.specs.declared.way.Stand.{Stand}
@@ -18,21 +15,17 @@ use Rattle.lock_rules.specs.Timetable.{first_free}
 use Rattle.chamber_times.specs.Walk.{line_places}
 use Rattle.day_play.specs.Order.{put_each, minute_of}
 use Rattle.day_play.specs.Lawful.{ship_of}
+use Rattle.day_play.specs.ComingIn.{CanComeIn, by_depth, in_turn}
 use Rattle.day_play.specs.declared.beat.Act.TheVariants.{Turn, Moor, Go, Done}
 use Rattle.day_play.specs.declared.beat.Beat.{Beat}
 
--- across the chamber, from the quay of the rank to a ship
-abbrev pub gap_to : Rank → ℕ → ℕ → ℕ → ℕ
-gap_to Left y width across = y
-gap_to Right y width across = across - (y + width)
-
--- from its quay to the ship at place k of the lockage
-abbrev pub quay_distance : Instance → Lockage → ℕ → ℕ
-quay_distance I l k = gap_to (spot_at l.spots k).rank (spot_at l.spots k).y (ship_at I (ship_of l k)).width (chamber_at I l.chamber).width
-
--- the places of the lockage's deck by distance from the quay, then by number
+-- the order in which the ships of a lockage come in: of those that aren't moored yet the deepest whose host is moored and that blocks none of them
 abbrev pub moor_order : Instance → Lockage → List ℕ
-moor_order I l = put_each (quay_distance I l) [] (numbers_from 0 (length l.ships))
+moor_order I l = in_turn I l (length l.ships) (by_depth I l)
+
+-- in each lockage of the plan all ships can come in in that order
+abbrev pub CanAllComeIn : Instance → Plan → Type 0
+CanAllComeIn I P = (p : ℕ) → p < length P.lockages → CanComeIn I (lockage_at P p) (moor_order I (lockage_at P p))
 
 -- the beat of ship at place k
 abbrev pub moor_beat : ℕ → Lockage → ℕ → Beat
