@@ -3,7 +3,7 @@ use Rattle.std.proofs.Common.{◌≡◌, ℕ, zero, suc, ◌+◌, ◌<◌, ◌�
 use Rattle.std.specs.declared.option.Option.{Option}
 use Rattle.std.proofs.lemmas.Bool.Decides.{eqb_tells}
 use Rattle.std.proofs.lemmas.List.{length-set, get_or-set_same, get_or-set_other}
-use Rattle.std.proofs.lemmas.List.Sums.{sum_by-append}
+use Rattle.std.proofs.lemmas.List.Sums.{sum_by-append, count_by_more_no}
 use Rattle.lock_model.specs.declared.instance.Instance.{Instance}
 use Rattle.lock_rules.specs.Node.{Node}
 use Rattle.book_rules.specs.declared.book.Entry.{Entry}
@@ -34,7 +34,7 @@ one-added es e new more = ap (count_by is_show_low) more ∙ sum_by-append (λ x
 -- another entry
 pub lows-kept : (es : List Entry) (n : ℕ) (e : Entry) (new : List Entry) → CountsLows es n → is_show_low e ≡ false → new ≡ es ++ e ∷ [] → CountsLows new n
 lows-kept es n e new old other more =
-    let one : count_by is_show_low (e ∷ []) ≡ 0 = ap (λ t. cond t 1 0) other in
+    let one : count_by is_show_low (e ∷ []) ≡ 0 = count_by_more_no is_show_low (e ∷ []) 0 e (omega arith) other in
     record { count = omega (arith, old.count, one-added es e new more, one) }
 
 -- one more cost
