@@ -1,4 +1,5 @@
 //! Worked rows of the bound by prices.
+mod greatest;
 mod locks;
 
 use crate::walk::node_at;
