@@ -13,8 +13,8 @@ use Rattle.book_rules.specs.Events.{Event, IsOwed}
 use Rattle.book_rules.specs.Step
 use Rattle.book_rules.specs.Room.{count_false}
 use Rattle.book_rules.specs.Waiting.{KeepsBack}
-use Rattle.book_rules.proofs.MoveLemmas.{Stays, TakesBack, TakesFresh, Splits, Closes, Parks, Posts, Prices, Replaces, Ends, GivesBack, IsRunning, each-move}
-use Rattle.book_rules.proofs.TallyLemmas.{one, count-turned, count-append, count-children, count-outdone, count_false-set}
+use Rattle.book_rules.proofs.MoveLemmas.{Stays, TakesBack, TakesFresh, Splits, Closes, Parks, Shows, Posts, Prices, Replaces, Ends, GivesBack, IsRunning, each-move}
+use Rattle.book_rules.proofs.TallyLemmas.{one, count-turned, count-append, count-children, count-outdone, count-low, count_false-set}
 use Rattle.closing_rules.specs.declared.grounds.Ground.TheVariants as by
 
 module _ {Break : Type 0} (broken : Instance → Plan → Option Break) (b : Book) where
@@ -44,6 +44,7 @@ module _ {Break : Type 0} (broken : Instance → Plan → Option Break) (b : Boo
             })
         | Closes old why id from at tells same ↦ subst KeepsBack (sym same) (record { few = omega (arith, keeps.few, count-turned is_back b id old (slot.Closed why) at) })
         | Parks w id c p at tells same ↦ subst KeepsBack (sym same) (record { few = omega (arith, keeps.few, count-turned is_back b id (slot.Held w) (slot.Parked c p) at) })
+        | Shows id low grows may same ↦ subst KeepsBack (sym same) (record { few = omega (arith, keeps.few, count-low is_back b id low may.known) })
         | Posts cut grows good own same ↦ subst KeepsBack (sym same) (record { few = keeps.few })
         | Prices prices grows good own same ↦ subst KeepsBack (sym same) (record { few = keeps.few })
         | Replaces plan grows cheaper same ↦ subst KeepsBack (sym same) (record { few = omega (arith, keeps.few, count-outdone is_back refl (cost_of b.case.instance plan) b.slots) })

@@ -1,5 +1,5 @@
 -- The book machine on worked rows, by computation.
-use Rattle.std.proofs.Common.{◌≡◌, ℕ, List, [], ◌∷◌, refl, None}
+use Rattle.std.proofs.Common.{◌≡◌, ℕ, List, [], ◌∷◌, ◌++◌, refl, Some, None}
 use Rattle.std.specs.declared.option.Option.{Option}
 use Rattle.lock_model.specs.Instance.{IsInstance}
 use Rattle.lock_model.specs.Deck.{Deck}
@@ -20,7 +20,7 @@ use Rattle.lock_rules.specs.Node.{Node as TreeNode, root}
 use Rattle.book_rules.specs.Verdict.{verdict_of}
 use Rattle.book_rules.specs.Events.{Event, take, split, close, park, release}
 use Rattle.book_rules.specs.Events.{Reply, Node, Made, Closed, Parked, Released, Ended, Holds, Idle, Done, NotHeld, Cheaper, NoHit, OtherDeck, Absent}
-use Rattle.book_rules.specs.Events.{post, post_prices, close_price, close_swept, replace, NodesSpent, Whole, Posted, Priced, Replaced, NotCheaper, OtherPrices, NoPrices, NotShown, NotRoot, NotSwept}
+use Rattle.book_rules.specs.Events.{post, post_prices, close_price, close_swept, show_low, replace, NodesSpent, Whole, LowShown, Posted, Priced, Replaced, NotCheaper, OtherPrices, NoPrices, NotShown, NotRoot, NotSwept, Lower}
 use Rattle.book_rules.specs.Shown.{Shown, Swept}
 use Rattle.book_rules.specs.Step.{step}
 use Rattle.book_rules.specs.Replay.{replay}
@@ -191,3 +191,65 @@ row-swept : (ok : IsInstance chambers-narrow ships-narrow) →
     ((slot_at b 0).state ≡ slot.Closed (by.Swept 0)) × (b.history ≡ entry.Prices ∷ entry.Take 0 ∷ entry.Post ∷ entry.Close 0 (by.Swept 0) ∷ [])
     × (replay unbroken b.case b.opening b.history b.cuts b.plans b.prices ≡ b) × (verdict_of b ≡ verdict.Optimal)
 row-swept ok = (refl, refl, refl, refl)
+
+-- showing costs of the root by prices and the cut: each is compared, and is more than what was known
+abbrev showing : IsInstance chambers-narrow ships-narrow → List Event
+showing ok =
+    show_low 0 0 (narrow_shown ok 8500 100) ∷ post_prices (8500 ∷ 8500 ∷ []) ∷ show_low 0 0 (narrow_shown ok 8500 100) ∷ post narrow_cut
+    ∷ show_low 0 0 (narrow_shown ok 8400 100) ∷ show_low 0 0 (narrow_shown ok 8500 70) ∷ show_low 0 0 (narrow_shown ok 8500 100) ∷ show_low 0 0 (narrow_shown ok 8500 100)
+    ∷ take 0 ∷ show_low 0 0 (narrow_shown ok 8500 101) ∷ split 0 ∷ show_low 0 0 (narrow_shown ok 8500 102) ∷ show_low 1 0 (narrow_shown ok 8500 102)
+    ∷ show_low 2 0 (narrow_shown ok 8500 102) ∷ []
+
+row-showing : (ok : IsInstance chambers-narrow ships-narrow) →
+    replies (three_nodes ok) (showing ok)
+    ≡ NoPrices 0 ∷ Priced 0 ∷ NotShown ∷ Posted 0 ∷ NotShown ∷ Lower 70 70 ∷ LowShown ∷ Lower 100 100 ∷ Node 0 root ∷ LowShown ∷ Made 1 ∷ NotHeld 0 ∷ NotShown ∷ NotHeld 2 ∷ []
+row-showing ok = refl
+
+-- nothing is shown of a slot that is closed, and nothing of an instance that is wider
+row-shut : (ok : IsInstance chambers-narrow ships-narrow) (wide : IsInstance chambers-side_by_side ships-side_by_side) →
+    replies (three_nodes ok)
+    (post_prices (8500 ∷ 8500 ∷ []) ∷ post narrow_cut ∷ show_low 0 0 (record { instance = side_by_side wide; node = root; prices = 8500 ∷ 8500 ∷ []; cuts = []; cost = 100 })
+    ∷ take 0 ∷ close_price 0 0 (narrow_shown ok 8500 120) ∷ show_low 0 0 (narrow_shown ok 8500 121) ∷ [])
+    ≡ Priced 0 ∷ Posted 0 ∷ NotShown ∷ Node 0 root ∷ Closed ∷ NotHeld 0 ∷ []
+row-shut ok wide = refl
+
+-- the slot keeps what was shown last, its child has nothing shown, and the history names slot, prices and cost
+row-low : (ok : IsInstance chambers-narrow ships-narrow) →
+    let b = after (three_nodes ok) (showing ok) in
+    ((slot_at b 0).shown ≡ Some (record { prices = 0; cost = 101 })) × ((slot_at b 1).shown ≡ None)
+    × (b.history ≡ entry.Prices ∷ entry.Post ∷ entry.ShowLow 0 (record { prices = 0; cost = 100 }) ∷ entry.Take 0 ∷ entry.ShowLow 0 (record { prices = 0; cost = 101 }) ∷ entry.Split 0 ∷ [])
+row-low ok = (refl, refl, refl)
+
+-- and is played again
+row-low_again : (ok : IsInstance chambers-narrow ships-narrow) →
+    let b = after (three_nodes ok) (post_prices (8500 ∷ 8500 ∷ []) ∷ post narrow_cut ∷ show_low 0 0 (narrow_shown ok 8500 100) ∷ take 0 ∷ []) in
+    replay unbroken b.case b.opening b.history b.cuts b.plans b.prices ≡ b
+row-low_again ok = refl
+
+-- An open verdict's low is what was shown of the one live slot, and at most the best cost less one; of several it is the least.
+abbrev later : Plan
+later = record { lockages = alone 0 0 ∷ alone 1 60 ∷ [] }
+
+abbrev spent_by : IsInstance chambers-narrow ships-narrow → Plan → ℕ → Book
+spent_by ok plan cost =
+    after (opening_book (record { instance = narrow ok; nodes = 2; turns = 20000 }) plan)
+    (take 0 ∷ split 0 ∷ take 0 ∷ split 1 ∷ post_prices (8500 ∷ 8500 ∷ []) ∷ post narrow_cut
+    ∷ show_low 2 0 (record { instance = narrow ok; node = both; prices = 8500 ∷ 8500 ∷ []; cuts = record { chamber = 0; ships = 0 ∷ 1 ∷ [] } ∷ []; cost = cost }) ∷ [])
+
+row-open_low : (ok : IsInstance chambers-narrow ships-narrow) →
+    (verdict_of (spent_by ok singles 80) ≡ verdict.OpenNodes 2 80) × (verdict_of (spent_by ok singles 100) ≡ verdict.OpenNodes 2 100)
+    × (verdict_of (spent_by ok singles 500) ≡ verdict.OpenNodes 2 119)
+row-open_low ok = (refl, refl, refl)
+
+row-least : (ok : IsInstance chambers-narrow ships-narrow) →
+    (verdict_of (spent_by ok later 119) ≡ verdict.OpenNodes 2 119) × (verdict_of (spent_by ok later 125) ≡ verdict.OpenNodes 2 120)
+row-least ok = (refl, refl)
+
+-- and so it is of a slot that is parked
+abbrev both_shown : IsInstance chambers-side_by_side ships-side_by_side → ℕ → Shown
+both_shown ok cost = record { instance = side_by_side ok; node = both; prices = 8500 ∷ 8500 ∷ []; cuts = []; cost = cost }
+
+row-parked_low : (ok : IsInstance chambers-side_by_side ships-side_by_side) →
+    let b = after (one_turn ok) (parking ++ post_prices (8500 ∷ 8500 ∷ []) ∷ show_low 2 0 (both_shown ok 100) ∷ []) in
+    (verdict_of b ≡ verdict.OpenTurns 0 (0 ∷ 1 ∷ []) 1 100) × (verdict_of (after b (show_low 2 0 (both_shown ok 500) ∷ [])) ≡ verdict.OpenTurns 0 (0 ∷ 1 ∷ []) 1 119)
+row-parked_low ok = (refl, refl)

@@ -1,5 +1,5 @@
 -- Every event keeps the budget, the workers and the room of the history.
-use Rattle.std.proofs.Common.{◌≡◌, ℕ, suc, ◌+◌, ◌*◌, ◌<◌, ◌≤◌, List, ◌++◌, length, refl, sym, ap, subst, arith, Bool, true, false, ◌||◌, slice_set, length-append}
+use Rattle.std.proofs.Common.{◌≡◌, ℕ, suc, ◌+◌, ◌*◌, ◌<◌, ◌≤◌, List, ◌++◌, length, refl, sym, ap, subst, arith, Bool, true, false, ◌||◌, Some, slice_set, length-append}
 use Rattle.std.specs.declared.option.Option.{Option}
 use Rattle.std.proofs.lemmas.List.{length-map, length-set}
 use Rattle.lock_model.specs.declared.limits.TheConstants.{CHILDREN}
@@ -20,8 +20,8 @@ use Rattle.book_rules.specs.Cover.{KeepsBook}
 use Rattle.book_rules.specs.Room.{count_slots}
 use Rattle.book_rules.specs.Budget.{is_taken, KeepsBudget}
 use Rattle.book_rules.proofs.SlotLemmas.{IsAt}
-use Rattle.book_rules.proofs.MoveLemmas.{Stays, TakesBack, TakesFresh, Splits, Closes, Parks, Posts, Prices, Replaces, Ends, GivesBack, MayClose, FromHeld, FromParked, turned, each-move}
-use Rattle.book_rules.proofs.TallyLemmas.{one, count-turned, count-append, count-children, count-weaker, count-outdone_same, count-outdone, open-whole, length-children}
+use Rattle.book_rules.proofs.MoveLemmas.{Stays, TakesBack, TakesFresh, Splits, Closes, Parks, Shows, Posts, Prices, Replaces, Ends, GivesBack, MayClose, FromHeld, FromParked, turned, each-move}
+use Rattle.book_rules.proofs.TallyLemmas.{one, count-turned, count-append, count-children, count-weaker, count-outdone_same, count-outdone, count-low, open-whole, length-children}
 
 -- ---- the budget of nodes
 
@@ -85,6 +85,11 @@ module _ {Break : Type 0} (broken : Instance → Plan → Option Break) (b : Boo
             let was = closing-whole old from in
             subst KeepsBudget (sym same) (turned-budget b id old (slot.Closed why) b.used b.ended _ keeps at was.0 refl (omega (arith, ap one was.1)) keeps.used)
         | Parks w id c p at tells same ↦ subst KeepsBudget (sym same) (turned-budget b id (slot.Held w) (slot.Parked c p) b.used b.ended _ keeps at refl refl (omega arith) keeps.used)
+        | Shows id low grows may same ↦ subst KeepsBudget (sym same) (record {
+          used = keeps.used;
+          taken = omega (arith, keeps.taken, count-low is_taken b id low may.known);
+          few = omega (arith, keeps.few, count-low is_split b id low may.known, length-set b.slots id (record (slot_at b id) { shown = Some low }));
+        })
         | Posts cut grows good own same ↦ subst KeepsBudget (sym same) (record { used = keeps.used; taken = keeps.taken; few = keeps.few })
         | Prices prices grows good own same ↦ subst KeepsBudget (sym same) (record { used = keeps.used; taken = keeps.taken; few = keeps.few })
         | Replaces plan grows cheaper same ↦ subst KeepsBudget (sym same) (record {

@@ -1,5 +1,5 @@
 -- Every event keeps the count of cheap nodes; where the budget is spent, there are more of them than it allows.
-use Rattle.std.proofs.Common.{◌≡◌, ℕ, zero, suc, ◌+◌, ◌-◌, ◌<◌, ◌≤◌, List, [], ◌∷◌, ◌++◌, length, map, refl, sym, ap, ◌∙◌, subst, arith, Bool, true, false, cond, slice_index_or, slice_set, nat_le, nat_lt, All, sum_by, inl, inr}
+use Rattle.std.proofs.Common.{◌≡◌, ℕ, zero, suc, ◌+◌, ◌-◌, ◌<◌, ◌≤◌, List, [], ◌∷◌, ◌++◌, length, map, refl, sym, ap, ◌∙◌, subst, arith, Bool, true, false, cond, Some, slice_index_or, slice_set, nat_le, nat_lt, All, sum_by, inl, inr}
 use Rattle.std.specs.declared.option.Option.{Option}
 use Rattle.std.proofs.lemmas.Bool.Decides.{leb_tells}
 use Rattle.std.proofs.lemmas.List.Elements.{All-head, All-tail}
@@ -11,6 +11,7 @@ use Rattle.lock_rules.specs.Plan.{cost_of}
 use Rattle.lock_rules.specs.Children.{children_of}
 use Rattle.lock_rules.specs.Cheap.{is_cheap, cheap_from, cheap_nodes}
 use Rattle.book_rules.specs.declared.book.Entry.{Entry}
+use Rattle.book_rules.specs.declared.book.ShownLow.{ShownLow}
 use Rattle.book_rules.specs.declared.book.Entry.TheVariants as entry
 use Rattle.book_rules.specs.declared.book.SlotState.{SlotState}
 use Rattle.book_rules.specs.declared.book.SlotState.TheVariants as slot
@@ -23,9 +24,9 @@ use Rattle.book_rules.specs.Room.{count_slots}
 use Rattle.book_rules.specs.Cover.{IsGoodSlot, KeepsBook}
 use Rattle.book_rules.specs.Cheap.{opening_cost, count_cheap, share_of, sum_shares, KeepsCheap}
 use Rattle.book_rules.proofs.SlotLemmas.{IsAt}
-use Rattle.book_rules.proofs.MoveLemmas.{Stays, TakesBack, TakesFresh, Splits, Closes, Parks, Posts, Prices, Replaces, Ends, GivesBack, MayClose, FromHeld, FromParked, turned, each-move}
+use Rattle.book_rules.proofs.MoveLemmas.{Stays, TakesBack, TakesFresh, Splits, Closes, Parks, Shows, Posts, Prices, Replaces, Ends, GivesBack, MayClose, FromHeld, FromParked, turned, each-move}
 use Rattle.book_rules.proofs.BudgetLemmas.{closing-whole}
-use Rattle.book_rules.proofs.TallyLemmas.{one, count-turned, count-append, count-outdone, open-whole, Kept, Closed, outdone-is}
+use Rattle.book_rules.proofs.TallyLemmas.{one, count-turned, count-append, count-outdone, count-low, open-whole, Kept, Closed, outdone-is}
 use Rattle.closing_rules.specs.declared.grounds.Ground.TheVariants as by
 
 -- ---- how the counts change
@@ -123,6 +124,16 @@ turned-cheap b id old new used ended e keeps at whole still paid =
       all = omega (arith, keeps.all, shares-set I c b.slots id s at.known, was, whole-share I c s still);
     }
 
+low-cheap : (b : Book) (id : ℕ) (low : ShownLow) → KeepsCheap b → id < length b.slots → KeepsCheap (Step.low_shown b id low)
+low-cheap b id low keeps known =
+    let c = opening_cost b in
+    let s : Slot = record (slot_at b id) { shown = Some low } in
+    record {
+      best = keeps.best;
+      used = omega (arith, keeps.used, count-low is_fresh b id low known, cheap-set c b.slots id s refl);
+      all = omega (arith, keeps.all, shares-set b.case.instance c b.slots id s known);
+    }
+
 split-cheap : (b : Book) (w id : ℕ) → KeepsBook b → KeepsCheap b → IsAt b id (slot.Held w) → (slot_at b id).node.depth < length b.case.instance.ships → KeepsCheap (Step.noted (Step.with_children b id) (entry.Split id))
 split-cheap b w id book keeps at lacks =
     let I = b.case.instance in
@@ -186,6 +197,7 @@ module _ {Break : Type 0} (broken : Instance → Plan → Option Break) (b : Boo
             subst KeepsCheap (sym same)
             (turned-cheap b id old (slot.Closed why) b.used b.ended (entry.Close id why) keeps at (closing-whole old from).0 refl (omega (arith, ap one (closing-fresh old from))))
         | Parks w id c p at tells same ↦ subst KeepsCheap (sym same) (turned-cheap b id (slot.Held w) (slot.Parked c p) b.used b.ended (entry.Park id c p) keeps at refl refl (omega arith))
+        | Shows id low grows may same ↦ subst KeepsCheap (sym same) (low-cheap b id low keeps may.known)
         | Posts cut grows good own same ↦ subst KeepsCheap (sym same) (record { best = keeps.best; used = keeps.used; all = keeps.all })
         | Prices prices grows good own same ↦ subst KeepsCheap (sym same) (record { best = keeps.best; used = keeps.used; all = keeps.all })
         | Replaces plan grows cheaper same ↦ subst KeepsCheap (sym same) (replaced-cheap b plan keeps cheaper)

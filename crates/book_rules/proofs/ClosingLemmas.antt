@@ -1,5 +1,5 @@
--- Closing a slot: what is refused, and what is known where nothing is refused.
-use Rattle.std.proofs.Common.{◌≡◌, ℕ, List, ◌≤◌, refl, Bool, true, false, not, cond, Some, None, slice_get, nat_eq, nat_lt}
+-- Closing a slot, and showing a cost of it: what is refused, and what is known where nothing is refused.
+use Rattle.std.proofs.Common.{◌≡◌, ℕ, List, ◌<◌, ◌≤◌, refl, arith, Bool, true, false, not, cond, Some, None, slice_get, nat_eq, nat_le, nat_lt, leb-false}
 use Rattle.std.proofs.lemmas.Bool.{false≢true, not-false}
 use Rattle.std.proofs.lemmas.Bool.Decides.{Decides-eqb}
 use Rattle.std.specs.Bool.{⊤}
@@ -12,9 +12,9 @@ use Rattle.refute_rules.specs.Cuts.{Cut}
 use Rattle.closing_rules.specs.declared.grounds.Ground.{Ground}
 use Rattle.closing_rules.specs.declared.grounds.Ground.TheVariants as by
 use Rattle.closing_rules.specs.Grounds.{IsClosedBy}
-use Rattle.book_rules.specs.Book.{Book, slot_at, best_cost}
+use Rattle.book_rules.specs.Book.{Book, slot_at, slot_low, best_cost}
 use Rattle.closing_rules.specs.ListedPrices.{IsPricedBy, IsSweptBy}
-use Rattle.book_rules.specs.Events.{Reply, is_acceptance, Cheaper, NoHit, Absent, NoPrices, NotShown, NotRoot, NotSwept}
+use Rattle.book_rules.specs.Events.{Reply, is_acceptance, Cheaper, NoHit, Absent, NoPrices, NotShown, NotRoot, NotSwept, Lower}
 use Rattle.book_rules.specs.Shown.{Shown, IsShown, Swept, IsSweptCost}
 use Rattle.book_rules.specs.States.{IsHitBy, cuts_in}
 use Rattle.book_rules.specs.Step
@@ -60,6 +60,13 @@ module _ (b : Book) (id : ℕ) where
     may-refuse_price number shown None = refl
     may-refuse_price number shown (Some prices) = refuse_or (not (Step.is_shown b id prices shown)) NotShown (Step.cheaper_than (best_cost b) shown.cost) refl (cheaper-refuses shown.cost)
 
+    pub may-refuse_low : (number : ℕ) (shown : Shown) (o : Option (List ℕ)) → MayRefuse {Break = Break} (Step.low_refusal b id number shown o)
+    may-refuse_low number shown None = refl
+    may-refuse_low number shown (Some prices) =
+        let low = slot_low (slot_at b id) in
+        refuse_or (not (Step.is_shown b id prices shown)) NotShown (cond (nat_le shown.cost low) (Some (Lower shown.cost low)) None) refl
+        (refuse_or (nat_le shown.cost low) (Lower shown.cost low) None refl tt)
+
     swept-refuses : (number : ℕ) (swept : Swept) (o : Option (List ℕ)) → MayRefuse {Break = Break} (Step.sweep_by_prices b number swept o)
     swept-refuses number swept None = refl
     swept-refuses number swept (Some prices) =
@@ -96,7 +103,19 @@ module _ (b : Book) (id : ℕ) where
     shown-may number shown reached (Some prices) there e =
         let own = Step.is_shown b id prices shown in
         let both = none-of (not own) NotShown (Step.cheaper_than (best_cost b) shown.cost) e in
-        shown-holds b id number prices there shown reached (not-false own both.0) (none-cheaper shown.cost both.1)
+        shown-holds b id number prices there shown reached (not-false own both.0) (best_cost b) (none-cheaper shown.cost both.1)
+
+    -- where what was shown isn't refused, slot id reaches its cost, which is more than was known of it
+    pub low-may : (number : ℕ) (shown : Shown) → IsShown shown → (o : Option (List ℕ)) → slice_get b.prices number ≡ o → Step.low_refusal {Break = Break} b id number shown o ≡ None
+        → (slot_low (slot_at b id) < shown.cost)
+        × IsPricedBy I (cuts_in I b.cuts) b.prices number (slot_at b id).node.depth (slot_at b id).node.lines shown.cost
+    low-may number shown reached None there e = absurd (some-not_none (NoPrices number) e)
+    low-may number shown reached (Some prices) there e =
+        let low = slot_low (slot_at b id) in
+        let own = Step.is_shown b id prices shown in
+        let both = none-of (not own) NotShown (cond (nat_le shown.cost low) (Some (Lower shown.cost low)) None) e in
+        let more = none-of (nat_le shown.cost low) (Lower shown.cost low) None both.1 in
+        (leb-false shown.cost low more.0, shown-holds b id number prices there shown reached (not-false own both.0) shown.cost (omega arith))
 
     by_prices-may : (number : ℕ) (swept : Swept) → IsSweptCost swept → (slot_at b id).node.depth ≡ 0 → (o : Option (List ℕ)) → slice_get b.prices number ≡ o
         → Step.sweep_by_prices {Break = Break} b number swept o ≡ None → MayCloseBy (by.Swept number)

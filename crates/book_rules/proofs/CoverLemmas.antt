@@ -24,10 +24,11 @@ use Rattle.closing_rules.specs.declared.grounds.Ground.TheVariants as by
 use Rattle.book_rules.specs.declared.book.SlotState.{SlotState}
 use Rattle.book_rules.specs.declared.book.SlotState.TheVariants as slot
 use Rattle.book_rules.specs.declared.book.Entry.{Entry}
+use Rattle.book_rules.specs.declared.book.ShownLow.{ShownLow}
 use Rattle.book_rules.specs.declared.book.Entry.TheVariants as entry
 use Rattle.book_rules.specs.Tests.{has_clash, is_own_cut}
 use Rattle.book_rules.specs.Book.{Case, Slot, Book, no_slot, slot_at, best_cost, bound_at, new_slot, opening_book, is_fresh, is_back, is_held, is_held_by, is_parked, is_live, first_slot, group_at}
-use Rattle.book_rules.specs.Events.{Event, Reply, IsOwed, take, split, close, post, post_prices, close_price, close_swept, park, replace, release}
+use Rattle.book_rules.specs.Events.{Event, Reply, IsOwed, take, split, close, post, post_prices, close_price, close_swept, show_low, park, replace, release}
 use Rattle.book_rules.specs.Events.{Replaced, Ended, NodesSpent, NotHeld, Whole, OtherDeck, OtherPrices, NotCheaper, Clashes}
 use Rattle.book_rules.specs.NextSlot
 use Rattle.book_rules.specs.Step
@@ -39,6 +40,7 @@ use Rattle.closing_rules.specs.ListedPrices.{ArePrices, AreShapedPrices, cut_in}
 use Rattle.book_rules.specs.States.{IsHitBy, cuts_in}
 use Rattle.book_rules.proofs.TestLemmas.{is_own_cut-decides}
 use Rattle.book_rules.proofs.ClosingLemmas.{MayCloseBy, unrefused-may, shown-may, swept-may}
+use Rattle.book_rules.proofs.TurnLemmas.{low-at}
 
 pub all-got : {X : Type 0} (P : X → Type 0) (xs : List X) (k : ℕ) (x : X) → All P xs → slice_get xs k ≡ Some x → P x
 all-got P [] k x a e = absurd (none-some x e)
@@ -185,6 +187,25 @@ other-covered I P slots id new c n = record {
   under = subst (Under I P) (sym (get_or-set_other slots id c.id new no_slot n)) c.under;
 }
 
+-- a cut of a book, as a certificate has it, is proved
+cut-proved : (I : Instance) (c : Cut) → IsCut c × IsOwnCut I c → IsProved I (record { chamber = c.chamber; ships = c.ships; refutation = c.refutation })
+cut-proved I c good = record {
+  shaped = record {
+    chamber = good.1.chamber;
+    some = omega (arith, good.0.count, good.0.deck.count.0);
+    known = good.1.ships;
+    kept = record { rising = good.0.rising; few = omega (arith, good.0.count, good.0.deck.count.1) };
+  };
+  refuted = subst (λ d. IsRefuted d c.refutation) good.1.deck good.0.refuted;
+}
+
+-- all cuts of a book hold
+pub cuts-hold : (b : Book) → TreeLaws b.case.instance → KeepsBook b → All CutHolds (cuts_in b.case.instance b.cuts)
+cuts-hold b laws keeps =
+    let I = b.case.instance in
+    All-map CutHolds (λ (c : Cut). cut_in I c.chamber c.ships) b.cuts
+    (All-weaker (λ c. IsCut c × IsOwnCut I c) (λ (c : Cut). CutHolds (cut_in I c.chamber c.ships)) (λ c good. laws.holds (record { chamber = c.chamber; ships = c.ships; refutation = c.refutation }) (cut-proved I c good)) b.cuts keeps.cuts)
+
 module _ {Break : Type 0} (broken : Instance → Plan → Option Break) (sound : (I : Instance) (P : Plan) → broken I P ≡ None → IsLegal I P) (b : Book) (laws : TreeLaws b.case.instance) (old : KeepsBook b) where
   abbrev I : Instance
   I = b.case.instance
@@ -228,31 +249,13 @@ module _ {Break : Type 0} (broken : Instance → Plan → Option Break) (sound :
   take_free-keeps w (Some id) = old
   take_free-keeps w None = take_slot-keeps w (first_slot b is_back)
 
-  -- a cut of the book, as a certificate has it, is proved
-  cut-proved : (c : Cut) → IsCut c × IsOwnCut I c → IsProved I (record { chamber = c.chamber; ships = c.ships; refutation = c.refutation })
-  cut-proved c good = record {
-    shaped = record {
-      chamber = good.1.chamber;
-      some = omega (arith, good.0.count, good.0.deck.count.0);
-      known = good.1.ships;
-      kept = record { rising = good.0.rising; few = omega (arith, good.0.count, good.0.deck.count.1) };
-    };
-    refuted = subst (λ d. IsRefuted d c.refutation) good.1.deck good.0.refuted;
-  }
-
   hit-dead : (id number : ℕ) → IsHitBy I b.cuts number (slot_at b id).node.lines → (P : Plan) → IsCheaper P → id < length b.slots → Under I P (slot_at b id) → ⊥
   hit-dead id number h P c known under =
       let cut = h.cut in
       let good = all-got (λ c. IsCut c × IsOwnCut I c) b.cuts number cut old.cuts h.there in
       let own : CertCut = record { chamber = cut.chamber; ships = cut.ships; refutation = cut.refutation } in
       let hits : HitsNode cut.ships (deck_of I cut.chamber cut.ships) I (slot_at b id).node.lines = subst (λ d. HitsNode cut.ships d I (slot_at b id).node.lines) good.1.deck h.hits in
-      laws.cut own (slot_at b id).node.depth (slot_at b id).node.lines P (cut-proved cut good) (old.slots id no_slot known).node hits c.0 under
-
-  -- all cuts of the book hold
-  cuts-hold : All CutHolds (cuts_in I b.cuts)
-  cuts-hold =
-      All-map CutHolds (λ (c : Cut). cut_in I c.chamber c.ships) b.cuts
-      (All-weaker (λ c. IsCut c × IsOwnCut I c) (λ (c : Cut). CutHolds (cut_in I c.chamber c.ships)) (λ c good. laws.holds (record { chamber = c.chamber; ships = c.ships; refutation = c.refutation }) (cut-proved c good)) b.cuts old.cuts)
+      laws.cut own (slot_at b id).node.depth (slot_at b id).node.lines P (cut-proved I cut good) (old.slots id no_slot known).node hits c.0 under
 
   -- under a slot that may be closed lies no cheaper legal plan
   closed-dead : (id : ℕ) (why : Ground) → MayCloseBy b id why → (P : Plan) → IsCheaper P → id < length b.slots → Under I P (slot_at b id) → ⊥
@@ -263,15 +266,37 @@ module _ {Break : Type 0} (broken : Instance → Plan → Option Break) (sound :
       omega (arith, h.1, low, c.1)
   closed-dead id (by.Cut number) h P c known under = hit-dead id number h P c known under
   closed-dead id (by.Price number) h P c known under =
-      let low = laws.price (cuts_in I b.cuts) (slot_at b id).node.depth (slot_at b id).node.lines h.own (best_cost b) cuts-hold h.reached P c.0 under in
+      let low = laws.price (cuts_in I b.cuts) (slot_at b id).node.depth (slot_at b id).node.lines h.own (best_cost b) (cuts-hold b laws old) h.reached P c.0 under in
       omega (arith, low, c.1)
   closed-dead id (by.Swept number) h P c known under =
-      let low = laws.swept (cuts_in I b.cuts) (best_cost b) cuts-hold h.swept P c.0 in
+      let low = laws.swept (cuts_in I b.cuts) (best_cost b) (cuts-hold b laws old) h.swept P c.0 in
       omega (arith, low, c.1)
 
   close-keeps : (id : ℕ) (why : Ground) (o : Option (Reply Break)) → (o ≡ None → MayCloseBy b id why) → KeepsBook (Step.close_unless b id why o).0
   close-keeps id why (Some r) may = old
   close-keeps id why None may = state-keeps id (slot.Closed why) b.used b.ended (b.history ++ entry.Close id why ∷ []) (inr (closed-dead id why (may refl)))
+
+  -- ---- showing a cost
+
+  low-covered : (id : ℕ) (low : ShownLow) (P : Plan) → IsLegal I P → cost_of I P < best_cost b → IsCovered I (Step.with_low b id low).slots P
+  low-covered id low P legal cheaper =
+      let c = old.covers.covered P legal cheaper in
+      let same = low-at b id low c.id in
+      record {
+        id = c.id;
+        known = omega (arith, c.known, length-set b.slots id (record (slot_at b id) { shown = Some low }));
+        live = ap (λ (s : Slot). is_live s.state) same ∙ c.live;
+        under = subst (Under I P) (sym same) c.under;
+      }
+
+  show-keeps : (id : ℕ) (low : ShownLow) (o : Option (Reply Break)) → KeepsBook (Step.show_unless b id low o).0
+  show-keeps id low (Some r) = old
+  show-keeps id low None = record {
+    slots = all-set (IsGoodSlot I) b.slots id (record (slot_at b id) { shown = Some low }) (λ known. let s = old.slots id no_slot known in record { node = s.node; bound = s.bound }) old.slots;
+    cuts = old.cuts;
+    prices = old.prices;
+    covers = record { legal = old.covers.legal; covered = low-covered id low };
+  }
 
   -- ---- splitting
 
@@ -368,6 +393,10 @@ module _ {Break : Type 0} (broken : Instance → Plan → Option Break) (sound :
       let refusal = Step.sweep_refusal b id number swept (slice_get b.prices number) in
       keep_or (not (Step.may_close b id)) (NotHeld id) (Step.close_unless b id (by.Swept number) refusal) (λ e.
       close-keeps id (by.Swept number) refusal (swept-may b id number swept owed))
+  event-keeps (show_low id number shown) owed =
+      let low : ShownLow = record { prices = number; cost = shown.cost } in
+      let refusal = Step.low_refusal b id number shown (slice_get b.prices number) in
+      keep_or (not (is_live (slot_at b id).state)) (NotHeld id) (Step.show_unless b id low refusal) (λ e. show-keeps id low refusal)
   event-keeps (park id c p deck turns) owed =
       keep_or (not (is_held (slot_at b id).state)) (NotHeld id) (Step.park_group b id c p deck turns (group_at (slot_at b id).node c p)) (λ e. park_group-keeps id c p deck turns (group_at (slot_at b id).node c p))
   event-keeps (replace plan) owed = replace_by-keeps plan (broken I plan) refl

@@ -1,5 +1,5 @@
 -- What a verdict of a book that ends well means.
-use Rattle.std.proofs.Common.{◌≡◌, ℕ, zero, suc, ◌<◌, ◌≤◌, List, [], ◌∷◌, length, map, filter, ◌⊎◌, inl, inr, refl, sym, ap, ◌∙◌, subst, arith, Bool, true, false, cond, ◌||◌, Some, None, slice_index_or, min, true≢false}
+use Rattle.std.proofs.Common.{◌≡◌, ℕ, zero, suc, ◌<◌, ◌≤◌, List, [], ◌∷◌, length, map, filter, ◌⊎◌, inl, inr, refl, sym, ap, ◌∙◌, subst, arith, Bool, true, false, cond, ◌||◌, Some, None, slice_index_or, min, All, true≢false}
 use Rattle.std.proofs.lemmas.Bool.{or_from, or_right, or_parts}
 use Rattle.std.specs.declared.option.Option.{Option}
 use Rattle.std.specs.List.{list_any}
@@ -9,21 +9,26 @@ use Rattle.lock_model.specs.declared.instance.Instance.{Instance}
 use Rattle.lock_model.specs.declared.plan.Plan.{Plan}
 use Rattle.lock_model.specs.declared.verdict.Verdict.TheVariants as verdict
 use Rattle.lock_rules.specs.Plan.{IsLegal, cost_of}
-use Rattle.lock_rules.specs.Node.{root_lines, line_at}
-use Rattle.lock_rules.specs.Bound.{least_number}
+use Rattle.lock_rules.specs.Node.{Node as TreeNode, root_lines, line_at}
+use Rattle.lock_rules.specs.Bound.{IsLowerBound, least_number}
 use Rattle.list_laws.specs.Among.{IsAmong}
+use Rattle.price_rules.specs.Prices.{CutHolds}
+use Rattle.price_rules.proofs.ReachLemmas.{reached-stays}
+use Rattle.book_rules.specs.declared.book.ShownLow.{ShownLow}
 use Rattle.book_rules.specs.declared.book.SlotState.{SlotState}
 use Rattle.book_rules.specs.declared.book.SlotState.TheVariants as slot
-use Rattle.book_rules.specs.Book.{Slot, Book, no_slot, no_group, slot_at, best_cost, ships_at, is_fresh, is_back, is_held, is_parked, is_live, has_slot, first_slot}
+use Rattle.book_rules.specs.Book.{Slot, Book, no_slot, no_group, slot_at, bound_at, low_by, slot_low, best_cost, ships_at, is_fresh, is_back, is_held, is_parked, is_live, has_slot, first_slot}
 use Rattle.book_rules.specs.Verdict.{low_of, parked_verdict, turns_verdict, verdict_of}
-use Rattle.book_rules.specs.Cover.{KeepsBook}
+use Rattle.book_rules.specs.Cover.{IsGoodSlot, KeepsBook}
+use Rattle.book_rules.specs.States.{cuts_in}
+use Rattle.book_rules.specs.Lows.{IsReachedLow, HasTrueLow}
 use Rattle.book_rules.specs.Cheap.{opening_cost}
 use Rattle.book_rules.specs.Parts.{KeepsParts}
 use Rattle.closing_rules.specs.Laws.{TreeLaws}
-use Rattle.book_rules.specs.Ends.{HasNothingOpen, HasSpentNodes, EndsWell, IsOpenLow, IsOpenNodes, IsSpentIn, IsUnderSpent, IsOpenTurns, IsEnd}
+use Rattle.book_rules.specs.Ends.{HasNothingOpen, HasSpentNodes, EndsWell, IsShownAbove, IsOpenLow, IsOpenNodes, IsSpentIn, IsUnderSpent, IsOpenTurns, IsEnd}
 use Rattle.book_rules.proofs.SlotLemmas.{first_slot-at, first_slot-none}
-use Rattle.book_rules.proofs.CoverLemmas.{nothing_live-cheapest}
-use Rattle.book_rules.proofs.StateLemmas.{state-tells, fresh-low}
+use Rattle.book_rules.proofs.CoverLemmas.{cuts-hold, nothing_live-cheapest}
+use Rattle.book_rules.proofs.StateLemmas.{cuts-own, state-tells, fresh-low}
 use Rattle.book_rules.proofs.CheapLemmas.{count-some, cheap-shares}
 use Rattle.closing_rules.proofs.BelowLemmas.{HasBelow, least-below}
 use Rattle.book_rules.proofs.GrowLemmas.{cheap-grows}
@@ -45,39 +50,39 @@ any-none : (p : Slot → Bool) (xs : List Slot) → ((id : ℕ) → id < length 
 any-none p [] h = refl
 any-none p (x ∷ xs) h = or_from (p x) (list_any p xs) (h 0 (omega arith)) (any-none p xs (λ id known. h (suc id) (omega (arith, known))))
 
--- ---- the least bound of the live slots
+-- ---- the least that is known of the live slots
 
--- a live slot has this bound
-record IsLiveBound (xs : List Slot) (low : ℕ) : Type 0 where
+-- this is known of a live slot
+record IsLiveLow (xs : List Slot) (low : ℕ) : Type 0 where
   id : ℕ
   known : id < length xs
   live : is_live (slice_index_or xs id no_slot).state ≡ true
-  is : (slice_index_or xs id no_slot).bound ≡ low
+  is : slot_low (slice_index_or xs id no_slot) ≡ low
 
-abbrev live_bounds : List Slot → List ℕ
-live_bounds xs = map (λ (s : Slot). s.bound) (filter (λ (s : Slot). is_live s.state) xs)
+abbrev live_lows : List Slot → List ℕ
+live_lows xs = map slot_low (filter (λ (s : Slot). is_live s.state) xs)
 
--- the bounds of a list whose first slot is live or isn't
-abbrev bounds_with : Bool → Slot → List Slot → List ℕ
-bounds_with t x xs = map (λ (s : Slot). s.bound) (cond t (x ∷ filter (λ (s : Slot). is_live s.state) xs) (filter (λ (s : Slot). is_live s.state) xs))
+-- the lows of a list whose first slot is live or isn't
+abbrev lows_with : Bool → Slot → List Slot → List ℕ
+lows_with t x xs = map slot_low (cond t (x ∷ filter (λ (s : Slot). is_live s.state) xs) (filter (λ (s : Slot). is_live s.state) xs))
 
-bound-below : (v : ℕ) (xs : List Slot) (id : ℕ) → id < length xs → is_live (slice_index_or xs id no_slot).state ≡ true → (slice_index_or xs id no_slot).bound ≤ v → HasBelow v (live_bounds xs)
-bound-below v [] id known live low = absurd (omega (arith, known))
-bound-below v (x ∷ xs) zero known live low = subst (λ t. HasBelow v (bounds_with t x xs)) (sym live) (inl low)
-bound-below v (x ∷ xs) (suc id) known live low = by_first (is_live x.state) (bound-below v xs id (omega (arith, known)) live low)
+low-below : (v : ℕ) (xs : List Slot) (id : ℕ) → id < length xs → is_live (slice_index_or xs id no_slot).state ≡ true → slot_low (slice_index_or xs id no_slot) ≤ v → HasBelow v (live_lows xs)
+low-below v [] id known live low = absurd (omega (arith, known))
+low-below v (x ∷ xs) zero known live low = subst (λ t. HasBelow v (lows_with t x xs)) (sym live) (inl low)
+low-below v (x ∷ xs) (suc id) known live low = by_first (is_live x.state) (low-below v xs id (omega (arith, known)) live low)
   where
-    by_first : (t : Bool) → HasBelow v (live_bounds xs) → HasBelow v (bounds_with t x xs)
+    by_first : (t : Bool) → HasBelow v (live_lows xs) → HasBelow v (lows_with t x xs)
     by_first true h = inr h
     by_first false h = h
 
-among-live : (xs : List Slot) (n : ℕ) → IsAmong (live_bounds xs) n → IsLiveBound xs n
+among-live : (xs : List Slot) (n : ℕ) → IsAmong (live_lows xs) n → IsLiveLow xs n
 among-live [] n h = absurd h
 among-live (x ∷ xs) n h = by_first (λ g. among-live xs n g) (is_live x.state) refl h
   where
-    later : IsLiveBound xs n → IsLiveBound (x ∷ xs) n
+    later : IsLiveLow xs n → IsLiveLow (x ∷ xs) n
     later f = record { id = suc f.id; known = omega (arith, f.known); live = f.live; is = f.is }
 
-    by_first : (IsAmong (live_bounds xs) n → IsLiveBound xs n) → (t : Bool) → is_live x.state ≡ t → IsAmong (bounds_with t x xs) n → IsLiveBound (x ∷ xs) n
+    by_first : (IsAmong (live_lows xs) n → IsLiveLow xs n) → (t : Bool) → is_live x.state ≡ t → IsAmong (lows_with t x xs) n → IsLiveLow (x ∷ xs) n
     by_first rest true e (inl same) = record { id = 0; known = omega arith; live = e; is = same }
     by_first rest true e (inr g) = later (rest g)
     by_first rest false e g = later (rest g)
@@ -117,7 +122,42 @@ module _ (b : Book) (laws : TreeLaws b.case.instance) (keeps : KeepsBook b) (par
   no-back : (id : ℕ) → id < length b.slots → is_back (slot_at b id).state ≡ false
   no-back id known = elim well.left [ inl shut ↦ (or_parts (is_fresh (slot_at b id).state) (is_back (slot_at b id).state) (shut.none id known)).1 | inr spent ↦ spent.back.none id known ]
 
-  -- ---- the least bound of what is left
+  -- ---- the least that is known of what is left
+
+  holds : All CutHolds (cuts_in I b.cuts)
+  holds = cuts-hold b laws keeps
+
+  -- no plan under a node costs less than its bound, or than what is shown of it
+  known-holds : (node : TreeNode) (bound : ℕ) (o : Option ShownLow) → IsLowerBound I node.depth node.lines bound → IsReachedLow I b.cuts b.prices node o → IsLowerBound I node.depth node.lines (low_by bound o)
+  known-holds node bound None low reached Q legal under = low Q legal under
+  known-holds node bound (Some shown) low reached Q legal under =
+      let shown_low = laws.price (cuts_in I b.cuts) node.depth node.lines reached.own shown.cost holds reached.reached Q legal under in
+      omega (arith, low Q legal under, shown_low)
+
+  slot-holds : (s : Slot) → IsGoodSlot I s → HasTrueLow I b.cuts b.prices s → IsLowerBound I s.node.depth s.node.lines (slot_low s)
+  slot-holds s good reached =
+      let low = subst (IsLowerBound I s.node.depth s.node.lines) (sym good.bound) (laws.bound s.node.depth s.node.lines good.node) in
+      known-holds s.node s.bound s.shown low reached
+
+  -- what is more than a node's bound and no more than is known of it is shown of it
+  known-shown : (node : TreeNode) (low : ℕ) (o : Option ShownLow) → IsReachedLow I b.cuts b.prices node o → bound_at I node < low → low ≤ low_by (bound_at I node) o → IsShownAbove I node.depth node.lines low
+  known-shown node low None reached above most = absurd (omega (arith, above, most))
+  known-shown node low (Some shown) reached above most = record {
+    above = above;
+    prices = reached.own;
+    cuts = cuts_in I b.cuts;
+    hold = holds;
+    reached = reached-stays I (cuts_in I b.cuts) (cuts_in I b.cuts) (cuts-own I b.cuts) node.depth node.lines reached.own shown.cost low (omega (arith, above, most)) reached.reached;
+  }
+
+  -- what is at least a good slot's bound, and no more than is known of it, is that bound or is shown of its node
+  slot-known : (s : Slot) (low : ℕ) → IsGoodSlot I s → HasTrueLow I b.cuts b.prices s → s.bound ≤ low → low ≤ slot_low s → (low ≡ bound_at I s.node) ⊎ IsShownAbove I s.node.depth s.node.lines low
+  slot-known s low good reached least most =
+      elim (leb_tells low s.bound) [
+        | inl y ↦ inl (omega (arith, y.1, least, good.bound))
+        | inr n ↦
+            inr (known-shown s.node low s.shown reached (omega (arith, n.1, good.bound)) (subst (λ bound. low ≤ low_by bound s.shown) good.bound most))
+      ]
 
   -- each live slot is cheap
   live-cheap : (id : ℕ) → id < length b.slots → is_live (slot_at b id).state ≡ true → (slot_at b id).bound < best_cost b
@@ -127,26 +167,34 @@ module _ (b : Book) (laws : TreeLaws b.case.instance) (keeps : KeepsBook b) (par
         | inr held ↦ let at = parked-is (slot_at b id).state held in well.parked.low id at.0 at.1 known at.2
       ]
 
-  -- where a slot is live, the low is a bound below the best cost, and no legal plan costs less
+  -- where a slot is live, the low is known of one, is below the best cost, and no legal plan costs less
   live-low : (id : ℕ) → id < length b.slots → is_live (slot_at b id).state ≡ true → IsOpenLow I b.best (low_of b)
   live-low id known live =
-      let found = among-live b.slots (low_of b) (least-among (slot_at b id).bound (live_bounds b.slots) (bound-below (slot_at b id).bound b.slots id known live (omega arith))) in
+      let least = least_number (live_lows b.slots) in
+      let found = among-live b.slots least (least-among (slot_low (slot_at b id)) (live_lows b.slots) (low-below (slot_low (slot_at b id)) b.slots id known live (omega arith))) in
+      let s = slot_at b found.id in
       let good = keeps.slots found.id no_slot found.known in
+      let cheap : s.bound < best_cost b = live-cheap found.id found.known found.live in
+      let most : low_of b ≤ slot_low s = omega (arith, found.is) in
       record {
-        depth = (slot_at b found.id).node.depth;
-        lines = (slot_at b found.id).node.lines;
+        depth = s.node.depth;
+        lines = s.node.lines;
         node = good.node;
-        bound = sym found.is ∙ good.bound;
-        below = omega (arith, found.is, live-cheap found.id found.known found.live);
+        known = slot-known s (low_of b) good (parts.lows.lows found.id no_slot found.known) (omega (arith, found.is, cheap, bound-known s.bound s.shown)) most;
+        below = omega (arith, cheap);
         least = λ Q legal. elim (leb_tells (best_cost b) (cost_of I Q)) [
-          | inl y ↦ omega (arith, y.1, found.is, live-cheap found.id found.known found.live)
+          | inl y ↦ omega (arith, y.1)
           | inr n ↦
               let c = keeps.covers.covered Q legal n.1 in
-              let own = keeps.slots c.id no_slot c.known in
-              let bound = laws.bound (slot_at b c.id).node.depth (slot_at b c.id).node.lines own.node Q legal c.under in
-              least-below (cost_of I Q) (live_bounds b.slots) (bound-below (cost_of I Q) b.slots c.id c.known c.live (omega (arith, bound, own.bound)))
+              let own = slot-holds (slot_at b c.id) (keeps.slots c.id no_slot c.known) (parts.lows.lows c.id no_slot c.known) Q legal c.under in
+              let low = least-below (cost_of I Q) (live_lows b.slots) (low-below (cost_of I Q) b.slots c.id c.known c.live own) in
+              omega (arith, low)
         ];
       }
+    where
+      bound-known : (bound : ℕ) (o : Option ShownLow) → bound ≤ low_by bound o
+      bound-known bound None = omega arith
+      bound-known bound (Some shown) = omega arith
 
   -- ---- by each end
 

@@ -1,11 +1,12 @@
 -- Every event keeps the tree that the slots make.
-use Rattle.std.proofs.Common.{◌≡◌, ℕ, zero, suc, ◌+◌, ◌<◌, List, [], ◌∷◌, ◌++◌, length, refl, sym, ap, ◌∙◌, subst, arith, Bool, true, false, cond, slice_index_or, slice_set, nat_le, true≢false}
+use Rattle.std.proofs.Common.{◌≡◌, ℕ, zero, suc, ◌+◌, ◌<◌, List, [], ◌∷◌, ◌++◌, length, refl, sym, ap, ◌∙◌, subst, arith, Bool, true, false, cond, Some, slice_index_or, slice_set, nat_le, true≢false}
 use Rattle.std.specs.declared.option.Option.{Option}
 use Rattle.std.proofs.lemmas.List.{length-map, length-set}
 use Rattle.lock_model.specs.declared.instance.Instance.{Instance}
 use Rattle.lock_model.specs.declared.plan.Plan.{Plan}
 use Rattle.lock_rules.specs.Plan.{cost_of}
 use Rattle.book_rules.specs.declared.book.Entry.{Entry}
+use Rattle.book_rules.specs.declared.book.ShownLow.{ShownLow}
 use Rattle.book_rules.specs.declared.book.Entry.TheVariants as entry
 use Rattle.book_rules.specs.declared.book.SlotState.{SlotState}
 use Rattle.book_rules.specs.declared.book.SlotState.TheVariants as slot
@@ -16,10 +17,10 @@ use Rattle.book_rules.specs.NextSlot.{is_split, first_child}
 use Rattle.book_rules.specs.Step
 use Rattle.book_rules.specs.Family.{child_count, child_node, HasChildren, IsBorn, KeepsFamily}
 use Rattle.book_rules.proofs.SlotLemmas.{IsAt}
-use Rattle.book_rules.proofs.MoveLemmas.{Stays, TakesBack, TakesFresh, Splits, Closes, Parks, Posts, Prices, Replaces, Ends, GivesBack, turned, state-known, each-move}
+use Rattle.book_rules.proofs.MoveLemmas.{Stays, TakesBack, TakesFresh, Splits, Closes, Parks, Shows, Posts, Prices, Replaces, Ends, GivesBack, turned, state-known, each-move}
 use Rattle.book_rules.proofs.BudgetLemmas.{closing-whole}
 use Rattle.book_rules.proofs.TallyLemmas.{Kept, Closed, outdone-is, open-whole}
-use Rattle.book_rules.proofs.TurnLemmas.{Turned, Untouched, turned-at, Parent, Old, Child, Past, split-at, kid, kid-at, length-split, outdone-at}
+use Rattle.book_rules.proofs.TurnLemmas.{Turned, Untouched, turned-at, Parent, Old, Child, Past, split-at, kid, kid-at, length-split, outdone-at, low-at}
 use Rattle.closing_rules.specs.declared.grounds.Ground.TheVariants as by
 
 -- slot id holds the same node, as the same child
@@ -129,6 +130,19 @@ replaced-shape b plan = record {
   where
     cost : ℕ
     cost = cost_of b.case.instance plan
+
+-- ---- a cost that is shown
+
+low-shape : (b : Book) (id : ℕ) (low : ShownLow) → IsSameShape b (Step.low_shown b id low)
+low-shape b id low = record {
+  case_same = refl;
+  long = length-set b.slots id (record (slot_at b id) { shown = Some low });
+  same = λ other.
+      let at = low-at b id low other in
+      record { parent_same = ap (λ (u : Slot). u.parent) at; number_same = ap (λ (u : Slot). u.number) at; node_same = ap (λ (u : Slot). u.node) at };
+  was = λ other first h. sym (ap (λ (u : Slot). u.state) (low-at b id low other)) ∙ h;
+  stays = λ other first h. ap (λ (u : Slot). u.state) (low-at b id low other) ∙ h;
+}
 
 -- any book with these slots
 like-shape : (b new : Book) → new.case ≡ b.case → new.slots ≡ b.slots → IsSameShape b new
@@ -303,6 +317,7 @@ module _ {Break : Type 0} (broken : Instance → Plan → Option Break) (b : Boo
         | Splits w id at lacks same ↦ subst KeepsFamily (sym same) (split-family b w id at (entry.Split id) keeps lacks)
         | Closes old why id from at tells same ↦ subst KeepsFamily (sym same) (turned-family id old (slot.Closed why) b.used b.ended (entry.Close id why) keeps at (closing-whole old from).0 refl)
         | Parks w id c p at tells same ↦ subst KeepsFamily (sym same) (turned-family id (slot.Held w) (slot.Parked c p) b.used b.ended (entry.Park id c p) keeps at refl refl)
+        | Shows id low grows may same ↦ subst KeepsFamily (sym same) (shape-family b (Step.low_shown b id low) (low-shape b id low) keeps)
         | Posts cut grows good own same ↦
             let new = Step.noted (record b { cuts = b.cuts ++ cut ∷ [] }) entry.Post in
             subst KeepsFamily (sym same) (shape-family b new (like-shape b new refl refl) keeps)

@@ -10,6 +10,7 @@ pub mod TurnLemmas
 pub mod WorkerLemmas
 pub mod FamilyLemmas
 pub mod StateLemmas
+pub mod LowLemmas
 pub mod CheapLemmas
 pub mod PartLemmas
 pub mod GrowLemmas

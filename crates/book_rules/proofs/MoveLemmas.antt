@@ -1,4 +1,4 @@
--- What an event does to a book: a refusal leaves it, and each accepted event is one of ten moves.
+-- What an event does to a book: a refusal leaves it, and each accepted event is one of eleven moves.
 use Rattle.std.proofs.Common.{◌≡◌, ◌≢◌, ℕ, zero, suc, ◌<◌, ◌≤◌, List, [], ◌∷◌, ◌++◌, length, inl, inr, refl, sym, ap, ◌∙◌, subst, arith, Bool, true, false, not, cond, ◌||◌, Some, None, slice_index_or, slice_get, slice_set, nat_eq, nat_le, leb-true, true≢false, leb-false}
 use Rattle.std.proofs.lemmas.Bool.{and_parts, not-false}
 use Rattle.std.proofs.lemmas.Option.{same_Some, none-some}
@@ -17,18 +17,20 @@ use Rattle.refute_rules.specs.Spots.{IsSpent}
 use Rattle.refute_rules.specs.Cuts.{Cut, IsCut}
 use Rattle.refute_rules.proofs.ListingLemmas.{spent-fewer}
 use Rattle.book_rules.specs.declared.book.Entry.{Entry}
+use Rattle.book_rules.specs.declared.book.ShownLow.{ShownLow}
 use Rattle.book_rules.specs.declared.book.Entry.TheVariants as entry
 use Rattle.book_rules.specs.declared.book.SlotState.{SlotState}
 use Rattle.book_rules.specs.declared.book.SlotState.TheVariants as slot
 use Rattle.book_rules.specs.Tests.{same_deck, has_clash, is_own_cut}
-use Rattle.book_rules.specs.Book.{Slot, Book, no_slot, slot_at, best_cost, first_slot, has_slot, is_back, is_held, is_held_by, is_parked, group_at, ships_at, no_group}
-use Rattle.book_rules.specs.Events.{Event, Reply, IsOwed, is_acceptance, take, split, close, post, post_prices, close_price, close_swept, park, replace, release}
+use Rattle.book_rules.specs.Book.{Slot, Book, no_slot, slot_at, slot_low, best_cost, first_slot, has_slot, is_back, is_held, is_held_by, is_parked, is_live, group_at, ships_at, no_group}
+use Rattle.book_rules.specs.Events.{Event, Reply, IsOwed, is_acceptance, take, split, close, post, post_prices, close_price, close_swept, show_low, park, replace, release}
 use Rattle.book_rules.specs.Events.{Replaced, Ended, NodesSpent, Idle, Done, NotHeld, Whole, OtherDeck, OtherPrices, NotCheaper, Clashes}
 use Rattle.book_rules.specs.NextSlot.{next_fresh}
 use Rattle.book_rules.specs.Step
 use Rattle.closing_rules.specs.ListedPrices.{ArePrices, AreShapedPrices}
 use Rattle.book_rules.specs.States.{Tells}
-use Rattle.book_rules.proofs.ClosingLemmas.{MayRefuse, may-refuse, may-refuse_price, may-refuse_sweep, unrefused-may, shown-may, swept-may}
+use Rattle.book_rules.specs.Lows.{IsReachedLow}
+use Rattle.book_rules.proofs.ClosingLemmas.{MayRefuse, may-refuse, may-refuse_price, may-refuse_sweep, may-refuse_low, unrefused-may, shown-may, swept-may, low-may}
 use Rattle.book_rules.proofs.CoverLemmas.{held-known}
 use Rattle.book_rules.proofs.TestLemmas.{same_deck-decides, HasNoClash-test, is_own_cut-decides}
 use Rattle.book_rules.specs.Cover.{IsOwnCut}
@@ -58,11 +60,19 @@ pub data MayClose : SlotState → Type 0 where
 abbrev pub TellsAt : Book → ℕ → SlotState → Type 0
 TellsAt b id state = Tells b.case b.cuts b.prices (best_cost b) (slot_at b id).node (slot_at b id).bound state
 
+-- this may be shown of slot id: it is there and live, and its node reaches the cost, which is more than was known of it
+pub record MayShow (b : Book) (id : ℕ) (low : ShownLow) : Type 0 where
+  pub known : id < length b.slots
+  pub live : is_live (slot_at b id).state ≡ true
+  pub more : slot_low (slot_at b id) < low.cost
+  pub reached : IsReachedLow b.case.instance b.cuts b.prices (slot_at b id).node (Some low)
+
 -- the event takes room for its own entry
 abbrev pub is_growing : Event → Bool
 is_growing (post cut) = true
 is_growing (post_prices prices) = true
 is_growing (replace plan) = true
+is_growing (show_low id number shown) = true
 is_growing _ = false
 
 pub data IsMove {Break : Type 0} (b : Book) (e : Event) (out : Book × Reply Break) : Type 0 where
@@ -72,6 +82,7 @@ pub data IsMove {Break : Type 0} (b : Book) (e : Event) (out : Book × Reply Bre
   Splits : (w id : ℕ) → IsAt b id (slot.Held w) → (slot_at b id).node.depth < length b.case.instance.ships → out.0 ≡ Step.noted (Step.with_children b id) (entry.Split id) → IsMove b e out
   Closes : (old : SlotState) (why : Ground) (id : ℕ) → MayClose old → IsAt b id old → TellsAt b id (slot.Closed why) → out.0 ≡ turned b id (slot.Closed why) b.used b.ended (entry.Close id why) → IsMove b e out
   Parks : (w id c p : ℕ) → IsAt b id (slot.Held w) → TellsAt b id (slot.Parked c p) → out.0 ≡ turned b id (slot.Parked c p) b.used b.ended (entry.Park id c p) → IsMove b e out
+  Shows : (id : ℕ) (low : ShownLow) → is_growing e ≡ true → MayShow b id low → out.0 ≡ Step.low_shown b id low → IsMove b e out
   Posts : (cut : Cut) → is_growing e ≡ true → IsCut cut → IsOwnCut b.case.instance cut → out.0 ≡ Step.noted (record b { cuts = b.cuts ++ cut ∷ [] }) entry.Post → IsMove b e out
   Prices : (prices : List ℕ) → is_growing e ≡ true → ArePrices prices → AreShapedPrices b.case.instance prices → out.0 ≡ Step.noted (record b { prices = b.prices ++ prices ∷ [] }) entry.Prices → IsMove b e out
   Replaces : (plan : Plan) → is_growing e ≡ true → cost_of b.case.instance plan < best_cost b → out.0 ≡ Step.replaced b plan → IsMove b e out
@@ -155,6 +166,16 @@ module _ {Break : Type 0} (broken : Instance → Plan → Option Break) (b : Boo
       let old = from_state id (slot_at b id).state refl may in
       Closes (slot_at b id).state why id old.0 old.1 (tells refl) refl
 
+  -- ---- showing a cost
+
+  live-known : (id : ℕ) → is_live (slot_at b id).state ≡ true → id < length b.slots
+  live-known id live = state-known b id (slot_at b id).state refl (λ e. true≢false (sym live ∙ ap is_live e))
+
+  -- an event that shows this of slot id, unless it is refused
+  show-move : (e : Event) (id : ℕ) (low : ShownLow) → is_growing e ≡ true → (o : Option (Reply Break)) → MayRefuse o → (o ≡ None → MayShow b id low) → Is e (Step.show_unless b id low o)
+  show-move e id low grows (Some r) refuses may = Stays refuses refl
+  show-move e id low grows None refuses may = Shows id low grows (may refl) refl
+
   -- ---- parking
 
   got-known : (gs : List Group) (p : ℕ) (g : Group) → slice_get gs p ≡ Some g → (p < length gs) × (slice_index_or gs p no_group ≡ g)
@@ -219,6 +240,14 @@ module _ {Break : Type 0} (broken : Instance → Plan → Option Break) (b : Boo
       refuse_or (close_swept id number swept) (not (Step.may_close b id)) (NotHeld id) (Step.close_unless b id (by.Swept number) refusal) refl (λ f.
       close-move (close_swept id number swept) id (by.Swept number) (not-false (Step.may_close b id) f) refusal (may-refuse_sweep b id Break number swept (slice_get b.prices number))
       (swept-may b id number swept owed))
+  each-move (show_low id number shown) owed =
+      let low : ShownLow = record { prices = number; cost = shown.cost } in
+      let refusal = Step.low_refusal b id number shown (slice_get b.prices number) in
+      refuse_or (show_low id number shown) (not (is_live (slot_at b id).state)) (NotHeld id) (Step.show_unless b id low refusal) refl (λ f.
+      let live = not-false (is_live (slot_at b id).state) f in
+      show-move (show_low id number shown) id low refl refusal (may-refuse_low b id Break number shown (slice_get b.prices number)) (λ e.
+      let may = low-may b id number shown owed (slice_get b.prices number) refl e in
+      record { known = live-known id live; live = live; more = may.0; reached = may.1 }))
   each-move (park id c p deck turns) owed =
       refuse_or (park id c p deck turns) (not (is_held (slot_at b id).state)) (NotHeld id) (Step.park_group b id c p deck turns (group_at (slot_at b id).node c p)) refl (λ f.
       let held = held-at b id (not-false (is_held (slot_at b id).state) f) in

@@ -9,6 +9,7 @@ use Rattle.book_rules.specs.Cover.{KeepsBook}
 use Rattle.book_rules.specs.Parts.{KeepsParts}
 use Rattle.book_rules.proofs.FamilyLemmas.{family-step, opening-family}
 use Rattle.book_rules.proofs.StateLemmas.{states-step, opening-states}
+use Rattle.book_rules.proofs.LowLemmas.{lows-step, opening-lows}
 use Rattle.book_rules.proofs.WorkerLemmas.{workers-step, opening-workers}
 use Rattle.book_rules.proofs.BudgetLemmas.{budget-step}
 use Rattle.book_rules.proofs.RoomLemmas.{room-step, opening-room, opening-budget}
@@ -19,6 +20,7 @@ pub opening-parts : (case : Case) (plan : Plan) → KeepsParts (opening_book cas
 opening-parts case plan = record {
   family = opening-family case plan;
   states = opening-states case plan;
+  lows = opening-lows case plan;
   workers = opening-workers case plan;
   budget = opening-budget case plan;
   room = opening-room case plan;
@@ -32,6 +34,7 @@ module _ {Break : Type 0} (broken : Instance → Plan → Option Break) where
   parts-step b book keeps e owed = record {
     family = family-step broken b keeps.family e owed;
     states = states-step broken b keeps.states e owed;
+    lows = lows-step broken b keeps.lows e owed;
     workers = workers-step broken b keeps.workers e owed;
     budget = budget-step broken b book keeps.budget e owed;
     room = room-step broken b keeps.budget keeps.workers.nine keeps.room e owed;

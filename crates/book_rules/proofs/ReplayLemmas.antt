@@ -14,11 +14,12 @@ use Rattle.lock_model.specs.declared.plan.Plan.{Plan}
 use Rattle.lock_rules.specs.Node.{line_at}
 use Rattle.refute_rules.specs.Cuts.{Cut}
 use Rattle.book_rules.specs.declared.book.Entry.{Entry}
+use Rattle.book_rules.specs.declared.book.ShownLow.{ShownLow}
 use Rattle.book_rules.specs.declared.book.Entry.TheVariants as entry
 use Rattle.book_rules.specs.Tests.{same_deck, has_clash}
-use Rattle.book_rules.specs.Book.{Case, Book, slot_at, best_cost, is_held, group_at, ships_at, no_group, opening_book}
-use Rattle.book_rules.specs.Events.{Event, Reply, is_acceptance, take, split, close, post, post_prices, close_price, close_swept, park, replace, release}
-use Rattle.book_rules.specs.Events.{NotHeld, OtherDeck, Clashes, Cheaper, NotShown, NotRoot, NotSwept}
+use Rattle.book_rules.specs.Book.{Case, Book, slot_at, slot_low, best_cost, is_held, is_live, group_at, ships_at, no_group, opening_book}
+use Rattle.book_rules.specs.Events.{Event, Reply, is_acceptance, take, split, close, post, post_prices, close_price, close_swept, show_low, park, replace, release}
+use Rattle.book_rules.specs.Events.{NotHeld, OtherDeck, Clashes, Cheaper, Lower, NotShown, NotRoot, NotSwept}
 use Rattle.closing_rules.specs.declared.grounds.Ground.{Ground}
 use Rattle.closing_rules.specs.declared.grounds.Ground.TheVariants as by
 use Rattle.book_rules.specs.Shown.{Shown, Swept}
@@ -64,6 +65,8 @@ module _ {Break : Type 0} (broken : Instance → Plan → Option Break) where
   replay-append (entry.Take w ∷ es) b x cs ds ps qs us vs e f g = replay-append es (after b (take w)) x cs ds ps qs us vs e f g
   replay-append (entry.Split id ∷ es) b x cs ds ps qs us vs e f g = replay-append es (after b (split id)) x cs ds ps qs us vs e f g
   replay-append (entry.Close id why ∷ es) b x cs ds ps qs us vs e f g = replay-append es (after b (closing_of b id why)) x cs ds ps qs us vs e f g
+  replay-append (entry.ShowLow id low ∷ es) b x cs ds ps qs us vs e f g =
+      replay-append es (after b (show_low id low.prices (own_shown b id low.prices low.cost))) x cs ds ps qs us vs e f g
   replay-append (entry.Post ∷ es) b x [] ds ps qs us vs e f g = absurd (omega (arith, first-taken is_post entry.Post es 0 refl e))
   replay-append (entry.Post ∷ es) b x (c ∷ cs) ds ps qs us vs e f g = replay-append es (after b (post c)) x cs ds ps qs us vs (omega (arith, first-taken is_post entry.Post es (suc (length cs)) refl e)) f g
   replay-append (entry.Prices ∷ es) b x cs ds ps qs [] vs e f g = absurd (omega (arith, first-taken is_pricing entry.Prices es 0 refl g))
@@ -134,10 +137,10 @@ module _ {Break : Type 0} (broken : Instance → Plan → Option Break) where
       ap (λ t. cond t (Some (Cheaper best best)) None) same
 
   -- the book's own closing isn't refused
-  own-unrefused : (b : Book) (id number : ℕ) (prices : List ℕ) → slice_get b.prices number ≡ Some prices → Step.price_refusal {Break = Break} b id number (own_shown b id number) (Some prices) ≡ None
+  own-unrefused : (b : Book) (id number : ℕ) (prices : List ℕ) → slice_get b.prices number ≡ Some prices → Step.price_refusal {Break = Break} b id number (own_shown b id number (best_cost b)) (Some prices) ≡ None
   own-unrefused b id number prices there =
       let best = best_cost b in
-      ap (λ t. cond (not t) (Some NotShown) (Step.cheaper_than best best)) (own-shown b id number prices there) ∙ best-unrefused best
+      ap (λ t. cond (not t) (Some NotShown) (Step.cheaper_than best best)) (own-shown b id number prices there best) ∙ best-unrefused best
 
   own_swept-unrefused : (b : Book) (number : ℕ) (prices : List ℕ) → Step.sweep_by_prices {Break = Break} b number (own_swept b) (Some prices) ≡ None
   own_swept-unrefused b number prices =
@@ -146,10 +149,10 @@ module _ {Break : Type 0} (broken : Instance → Plan → Option Break) where
 
   prices-again : (b : Book) (id number : ℕ) (shown : Shown) (o : Option (List ℕ)) → slice_get b.prices number ≡ o
       → is_acceptance (Step.close_unless {Break = Break} b id (by.Price number) (Step.price_refusal b id number shown o)).1 ≡ true
-      → (Step.close_unless {Break = Break} b id (by.Price number) (Step.price_refusal b id number (own_shown b id number) o)).0 ≡ (Step.close_unless {Break = Break} b id (by.Price number) (Step.price_refusal b id number shown o)).0
+      → (Step.close_unless {Break = Break} b id (by.Price number) (Step.price_refusal b id number (own_shown b id number (best_cost b)) o)).0 ≡ (Step.close_unless {Break = Break} b id (by.Price number) (Step.price_refusal b id number shown o)).0
   prices-again b id number shown None there good = refl
   prices-again b id number shown (Some prices) there good =
-      unrefused-again b id (by.Price number) (Step.price_refusal b id number shown (Some prices)) (Step.price_refusal b id number (own_shown b id number) (Some prices))
+      unrefused-again b id (by.Price number) (Step.price_refusal b id number shown (Some prices)) (Step.price_refusal b id number (own_shown b id number (best_cost b)) (Some prices))
       (own-unrefused b id number prices there) (may-refuse_price b id Break number shown (Some prices)) good
 
   -- where it is known whether the slot is the root
@@ -178,6 +181,29 @@ module _ {Break : Type 0} (broken : Instance → Plan → Option Break) where
   closing-again b id (by.Probe s) good = refl
   closing-again b id (by.Cut number) good = refl
 
+  -- ---- showing a cost again, with what the book itself says
+
+  -- where it is known whether what was shown is of the slot
+  abbrev shown_way : Book → ℕ → ShownLow → Bool → Book × Reply Break
+  shown_way b id low t =
+      let known = slot_low (slot_at b id) in
+      Step.show_unless b id low (cond (not t) (Some NotShown) (cond (nat_le low.cost known) (Some (Lower low.cost known)) None))
+
+  own-again : (b : Book) (id : ℕ) (low : ShownLow) (t : Bool) → is_acceptance (shown_way b id low t).1 ≡ true → (shown_way b id low true).0 ≡ (shown_way b id low t).0
+  own-again b id low true good = refl
+  own-again b id low false good = absurd (false≢true good)
+
+  low-again : (b : Book) (id number : ℕ) (shown : Shown) (o : Option (List ℕ)) → slice_get b.prices number ≡ o
+      → is_acceptance (Step.show_unless {Break = Break} b id (record { prices = number; cost = shown.cost }) (Step.low_refusal b id number shown o)).1 ≡ true
+      → (Step.show_unless {Break = Break} b id (record { prices = number; cost = shown.cost }) (Step.low_refusal b id number (own_shown b id number shown.cost) o)).0
+      ≡ (Step.show_unless {Break = Break} b id (record { prices = number; cost = shown.cost }) (Step.low_refusal b id number shown o)).0
+  low-again b id number shown None there good = refl
+  low-again b id number shown (Some prices) there good =
+      let low : ShownLow = record { prices = number; cost = shown.cost } in
+      ap (λ t. (shown_way b id low t).0) (own-shown b id number prices there shown.cost) ∙ own-again b id low (Step.is_shown b id prices shown) good
+
+  -- ---- every event again
+
   -- one accepted event, replayed by its entry
   replay-one : (b : Book) (e : Event) → is_acceptance (Step.step broken b e).1 ≡ true → replay_from broken b (entry_of e ∷ []) (cuts_of e) (plans_of e) (prices_of e) ≡ after b e
   replay-one b (take w) good = refl
@@ -188,7 +214,7 @@ module _ {Break : Type 0} (broken : Instance → Plan → Option Break) where
   replay-one b (close_price id number shown) good =
       held-again b id (not (Step.may_close b id))
       (Step.close_unless b id (by.Price number) (Step.price_refusal b id number shown (slice_get b.prices number)))
-      (Step.close_unless b id (by.Price number) (Step.price_refusal b id number (own_shown b id number) (slice_get b.prices number)))
+      (Step.close_unless b id (by.Price number) (Step.price_refusal b id number (own_shown b id number (best_cost b)) (slice_get b.prices number)))
       (prices-again b id number shown (slice_get b.prices number) refl) good
   replay-one b (close_swept id number swept) good =
       let prices = slice_get b.prices number in
@@ -196,6 +222,13 @@ module _ {Break : Type 0} (broken : Instance → Plan → Option Break) where
       (Step.close_unless b id (by.Swept number) (Step.sweep_refusal b id number swept prices))
       (Step.close_unless b id (by.Swept number) (Step.sweep_refusal b id number (own_swept b) prices))
       (sweep-again b id number swept prices (nat_eq (slot_at b id).node.depth 0) (may-refuse_sweep b id Break number swept prices)) good
+  replay-one b (show_low id number shown) good =
+      let prices = slice_get b.prices number in
+      let low : ShownLow = record { prices = number; cost = shown.cost } in
+      held-again b id (not (is_live (slot_at b id).state))
+      (Step.show_unless b id low (Step.low_refusal b id number shown prices))
+      (Step.show_unless b id low (Step.low_refusal b id number (own_shown b id number shown.cost) prices))
+      (low-again b id number shown prices refl) good
   replay-one b (park id c p deck turns) good =
       held-again b id (not (is_held (slot_at b id).state))
       (Step.park_group b id c p deck turns (group_at (slot_at b id).node c p))

@@ -1,6 +1,8 @@
--- Every event keeps the room of the history: each accepted event but a posting and a replace uses one entry of it.
-use Rattle.std.proofs.Common.{◌≡◌, ℕ, suc, ◌+◌, ◌-◌, ◌*◌, ◌≤◌, List, [], ◌∷◌, length, refl, sym, ap, ◌∙◌, subst, arith, Bool, true, false, cond, nat_le, slice_set, true≢false, length-append}
+-- Every event keeps the room of the history: each accepted event but a posting, a replace and a shown cost uses one entry of it.
+use Rattle.std.proofs.Common.{◌≡◌, ℕ, suc, ◌+◌, ◌-◌, ◌*◌, ◌≤◌, List, [], ◌∷◌, ◌++◌, length, refl, sym, ap, ◌∙◌, subst, arith, Bool, true, false, cond, nat_le, slice_set, true≢false, length-append}
 use Rattle.std.specs.declared.option.Option.{Option}
+use Rattle.std.specs.List.{count_by}
+use Rattle.std.proofs.lemmas.List.Sums.{sum_by-append}
 use Rattle.lock_model.specs.declared.limits.TheConstants.{WORKERS_AND_DRIVER}
 use Rattle.lock_model.specs.declared.instance.Instance.{Instance}
 use Rattle.lock_model.specs.declared.plan.Plan.{Plan}
@@ -12,15 +14,15 @@ use Rattle.book_rules.specs.declared.book.SlotState.{SlotState}
 use Rattle.book_rules.specs.declared.book.SlotState.TheVariants as slot
 use Rattle.book_rules.specs.Book.{Case, Slot, Book, slot_at, best_cost, bound_at, opening_book, is_back, is_held, is_parked}
 use Rattle.lock_rules.specs.Node.{root}
-use Rattle.book_rules.specs.Events.{Event, Reply, IsOwed, is_acceptance, post, post_prices, replace}
+use Rattle.book_rules.specs.Events.{Event, Reply, IsOwed, is_acceptance, post, post_prices, show_low, replace}
 use Rattle.book_rules.specs.Step
 use Rattle.book_rules.specs.Room.{count_slots, count_false, room_of}
 use Rattle.book_rules.specs.Budget.{is_taken, KeepsBudget}
-use Rattle.book_rules.specs.History.{KeepsRoom}
+use Rattle.book_rules.specs.History.{is_show_low, KeepsRoom}
 use Rattle.book_rules.proofs.SlotLemmas.{IsAt}
 use Rattle.book_rules.proofs.StepLemmas.{Refused, Accepted, each-step, entry_of, cuts_of, plans_of, prices_of}
-use Rattle.book_rules.proofs.MoveLemmas.{Stays, TakesBack, TakesFresh, Splits, Closes, Parks, Posts, Prices, Replaces, Ends, GivesBack, IsRunning, MayClose, FromHeld, FromParked, is_growing, each-move}
-use Rattle.book_rules.proofs.TallyLemmas.{one, count-turned, count-append, count-children, count-outdone, count_false-set}
+use Rattle.book_rules.proofs.MoveLemmas.{Stays, TakesBack, TakesFresh, Splits, Closes, Parks, Shows, Posts, Prices, Replaces, Ends, GivesBack, IsRunning, MayClose, FromHeld, FromParked, is_growing, each-move}
+use Rattle.book_rules.proofs.TallyLemmas.{one, count-turned, count-append, count-children, count-outdone, count-low, count_false-set}
 use Rattle.closing_rules.specs.declared.grounds.Ground.TheVariants as by
 
 -- the room for slots, and for a slot in this state
@@ -82,6 +84,9 @@ module _ {Break : Type 0} (broken : Instance → Plan → Option Break) (b : Boo
         | Parks w id c p at tells same ↦
             let slots = slots_room-turned b id (slot.Held w) (slot.Parked c p) at in
             Less (subst (λ (u : Book). suc (room_of u) ≤ room_of b) (sym same) (omega (arith, slots)))
+        | Shows id low grows may same ↦
+            Own grows (subst (λ (u : Book). room_of u ≤ room_of b) (sym same)
+            (omega (arith, count-low is_back b id low may.known, count-low is_held b id low may.known, count-low is_parked b id low may.known)))
         | Posts cut grows good own same ↦ Own grows (subst (λ (u : Book). room_of u ≤ room_of b) (sym same) (omega arith))
         | Prices prices grows good own same ↦ Own grows (subst (λ (u : Book). room_of u ≤ room_of b) (sym same) (omega arith))
         | Replaces plan grows cheaper same ↦
@@ -94,7 +99,7 @@ module _ {Break : Type 0} (broken : Instance → Plan → Option Break) (b : Boo
             Less (subst (λ (u : Book). suc (room_of u) ≤ room_of b) (sym same) (omega (arith, slots, ends-count b w nine runs)))
       ]
 
-  -- an accepted event that is neither a posting nor a replace uses one entry of the room
+  -- an accepted event that is neither a posting nor a replace nor a shown cost uses one entry of the room
   pub room-falls : (e : Event) → IsOwed e → is_growing e ≡ false → is_acceptance (Step.step broken b e).1 ≡ true → suc (room_of (Step.step broken b e).0) ≤ room_of b
   room-falls e owed plain accepted =
       elim (room-left e owed) [
@@ -112,11 +117,15 @@ module _ {Break : Type 0} (broken : Instance → Plan → Option Break) (b : Boo
         | Refusal refused same ↦ omega (arith, ap room_of same)
       ]
 
-  own-entry : (e : Event) → is_growing e ≡ true → length (cuts_of e) + length (plans_of e) + length (prices_of e) ≡ 1
+  own-entry : (e : Event) → is_growing e ≡ true → length (cuts_of e) + length (plans_of e) + length (prices_of e) + count_by is_show_low (entry_of e ∷ []) ≡ 1
   own-entry (post cut) grows = refl
+  own-entry (show_low id number shown) grows = refl
   own-entry (post_prices prices) grows = refl
   own-entry (replace plan) grows = refl
   own-entry _ grows = absurd (true≢false (sym grows))
+
+  lows-append : (es more : List Entry) → count_by is_show_low (es ++ more) ≡ count_by is_show_low es + count_by is_show_low more
+  lows-append es more = sum_by-append (λ e. cond (is_show_low e) 1 0) es more
 
   pub room-step : KeepsRoom b → (e : Event) → IsOwed e → KeepsRoom (Step.step broken b e).0
   room-step keeps e owed =
@@ -128,9 +137,10 @@ module _ {Break : Type 0} (broken : Instance → Plan → Option Break) (b : Boo
             let plans = ap length new.plans ∙ length-append b.plans (plans_of e) in
             let prices = ap length new.prices ∙ length-append b.prices (prices_of e) in
             let nodes = ap (λ (c : Case). c.nodes) new.case in
+            let lows = ap (count_by is_show_low) new.history ∙ lows-append b.history (entry_of e ∷ []) in
             elim (room-left e owed) [
-              | Less h ↦ record { room = omega (arith, keeps.room, h, long, cuts, plans, prices, nodes) }
-              | Own grows h ↦ record { room = omega (arith, keeps.room, h, long, cuts, plans, prices, nodes, own-entry e grows) }
+              | Less h ↦ record { room = omega (arith, keeps.room, h, long, cuts, plans, prices, nodes, lows) }
+              | Own grows h ↦ record { room = omega (arith, keeps.room, h, long, cuts, plans, prices, nodes, lows, own-entry e grows) }
               | Refusal refused same ↦ subst KeepsRoom (sym same) keeps
             ]
       ]
@@ -138,7 +148,7 @@ module _ {Break : Type 0} (broken : Instance → Plan → Option Break) (b : Boo
 pub opening-room : (case : Case) (plan : Plan) → KeepsRoom (opening_book case plan)
 opening-room case plan = record { room = by_bound (nat_le (cost_of case.instance plan) (bound_at case.instance root)) }
   where
-    by_bound : (t : Bool) → 0 + (3 * (case.nodes - 0) + 3 * (one (is_back (cond t (slot.Closed by.Bound) slot.Fresh)) + 0) + 2 * (one (is_held (cond t (slot.Closed by.Bound) slot.Fresh)) + 0) + (one (is_parked (cond t (slot.Closed by.Bound) slot.Fresh)) + 0) + 2 * WORKERS_AND_DRIVER) ≤ 3 * case.nodes + 32 + 0 + 0 + 0
+    by_bound : (t : Bool) → 0 + (3 * (case.nodes - 0) + 3 * (one (is_back (cond t (slot.Closed by.Bound) slot.Fresh)) + 0) + 2 * (one (is_held (cond t (slot.Closed by.Bound) slot.Fresh)) + 0) + (one (is_parked (cond t (slot.Closed by.Bound) slot.Fresh)) + 0) + 2 * WORKERS_AND_DRIVER) ≤ 3 * case.nodes + 32 + 0 + 0 + 0 + 0
     by_bound true = omega arith
     by_bound false = omega arith
 

@@ -57,10 +57,10 @@ same-reached cuts cost I J m n u v p q r h =
     (subst (λ J. Reaches J (shown_cuts J cuts) m.depth m.lines u cost) p h))
 
 module _ (b : Book) (id number : ℕ) (prices : List ℕ) (there : slice_get b.prices number ≡ Some prices) where
-  -- what is shown of slot id holds in the book, with all its cuts and its best cost
-  pub shown-holds : (shown : Shown) → IsShown shown → is_shown b id prices shown ≡ true → best_cost b ≤ shown.cost
-      → IsPricedBy b.case.instance (cuts_in b.case.instance b.cuts) b.prices number (slot_at b id).node.depth (slot_at b id).node.lines (best_cost b)
-  shown-holds shown reached e high =
+  -- what is shown of slot id holds in the book, with all its cuts, of its cost and each lower one
+  pub shown-holds : (shown : Shown) → IsShown shown → is_shown b id prices shown ≡ true → (cost : ℕ) → cost ≤ shown.cost
+      → IsPricedBy b.case.instance (cuts_in b.case.instance b.cuts) b.prices number (slot_at b id).node.depth (slot_at b id).node.lines cost
+  shown-holds shown reached e cost high =
       let I = b.case.instance in
       let node = (slot_at b id).node in
       let three = same_instance shown.instance I && same_node shown.node node && pointwise nat_eq shown.prices prices in
@@ -72,12 +72,12 @@ module _ (b : Book) (id number : ℕ) (prices : List ℕ) (there : slice_get b.p
       record {
         own = prices;
         there = there;
-        reached = reached-stays I (shown_cuts I shown.cuts) (cuts_in I b.cuts) (first-among I shown.cuts b.cuts parts.1) node.depth node.lines prices shown.cost (best_cost b) high moved;
+        reached = reached-stays I (shown_cuts I shown.cuts) (cuts_in I b.cuts) (first-among I shown.cuts b.cuts parts.1) node.depth node.lines prices shown.cost cost high moved;
       }
 
-  -- what the book itself says of slot id is of that slot
-  pub own-shown : is_shown b id prices (own_shown b id number) ≡ true
-  own-shown =
+  -- what the book itself says of slot id and a cost is of that slot
+  pub own-shown : (cost : ℕ) → is_shown b id prices (own_shown b id number cost) ≡ true
+  own-shown cost =
       let I = b.case.instance in
       let node = (slot_at b id).node in
       let own : slice_index_or b.prices number [] ≡ prices = got b.prices number there in

@@ -11,6 +11,7 @@ use Rattle.lock_rules.specs.Plan.{cost_of}
 use Rattle.lock_rules.specs.Children.{children_of}
 use Rattle.refute_rules.specs.Cuts.{Cut}
 use Rattle.book_rules.specs.declared.book.Entry.{Entry}
+use Rattle.book_rules.specs.declared.book.ShownLow.{ShownLow}
 use Rattle.book_rules.specs.declared.book.Entry.TheVariants as entry
 use Rattle.book_rules.specs.declared.book.SlotState.{SlotState}
 use Rattle.book_rules.specs.declared.book.SlotState.TheVariants as slot
@@ -24,7 +25,7 @@ use Rattle.closing_rules.specs.ListedPrices.{cut_in}
 use Rattle.book_rules.specs.States.{cuts_in, Tells, IsTrueSlot, KeepsStates}
 use Rattle.book_rules.proofs.CoverLemmas.{all-set}
 use Rattle.book_rules.proofs.SlotLemmas.{IsAt}
-use Rattle.book_rules.proofs.MoveLemmas.{Stays, TakesBack, TakesFresh, Splits, Closes, Parks, Posts, Prices, Replaces, Ends, GivesBack, TellsAt, turned, each-move}
+use Rattle.book_rules.proofs.MoveLemmas.{Stays, TakesBack, TakesFresh, Splits, Closes, Parks, Shows, Posts, Prices, Replaces, Ends, GivesBack, TellsAt, turned, each-move}
 use Rattle.book_rules.proofs.TallyLemmas.{Kept, Closed, outdone-is}
 use Rattle.closing_rules.specs.declared.grounds.Ground.TheVariants as by
 
@@ -41,13 +42,13 @@ children-true case cuts prices cost parent depth number (l ∷ ls) =
     (new-true case cuts prices cost node (bound_at case.instance node) (nat_le cost (bound_at case.instance node)) refl) (children-true case cuts prices cost parent depth (suc number) ls)
 
 -- what is listed keeps its number where more follows
-get-more : {X : Type 0} (xs more : List X) (number : ℕ) (x : X) → slice_get xs number ≡ Some x → slice_get (xs ++ more) number ≡ Some x
+pub get-more : {X : Type 0} (xs more : List X) (number : ℕ) (x : X) → slice_get xs number ≡ Some x → slice_get (xs ++ more) number ≡ Some x
 get-more [] more number x e = absurd (none-some x e)
 get-more (c ∷ cs) more zero x e = e
 get-more (c ∷ cs) more (suc number) x e = get-more cs more number x e
 
 -- the first cuts stand among all of them
-cuts-among : (I : Instance) (cuts more : List Cut) → All (Contains (cuts_in I (cuts ++ more))) (cuts_in I cuts)
+pub cuts-among : (I : Instance) (cuts more : List Cut) → All (Contains (cuts_in I (cuts ++ more))) (cuts_in I cuts)
 cuts-among I [] more = All-nil (Contains (cuts_in I more))
 cuts-among I (c ∷ cs) more =
     All-cons (Contains (cuts_in I ((c ∷ cs) ++ more))) (cut_in I c.chamber c.ships) (cuts_in I cs) (0, omega arith, refl)
@@ -86,7 +87,7 @@ priced-tells case cuts prices more cost node bound (slot.Held w) h = h
 priced-tells case cuts prices more cost node bound (slot.Parked c p) h = h
 priced-tells case cuts prices more cost node bound (slot.Split first) h = h
 
-cuts-own : (I : Instance) (cuts : List Cut) → All (Contains (cuts_in I cuts)) (cuts_in I cuts)
+pub cuts-own : (I : Instance) (cuts : List Cut) → All (Contains (cuts_in I cuts)) (cuts_in I cuts)
 cuts-own I cuts = λ k d known. (k, known, get_or_default (cuts_in I cuts) k (slice_index_or (cuts_in I cuts) k d) d known)
 
 -- by a lower cost, where a Fresh slot's bound is still below it
@@ -124,6 +125,9 @@ module _ {Break : Type 0} (broken : Instance → Plan → Option Break) (b : Boo
   turned-states : (id : ℕ) (new : SlotState) (used : ℕ) (ended : List Bool) (e : Entry) → KeepsStates b → TellsAt b id new → KeepsStates (turned b id new used ended e)
   turned-states id new used ended e keeps tells = record { states = all-set (IsTrueSlot b.case b.cuts b.prices (best_cost b)) b.slots id (record (slot_at b id) { state = new }) (λ known. tells) keeps.states }
 
+  low-states : (id : ℕ) (low : ShownLow) → KeepsStates b → KeepsStates (Step.low_shown b id low)
+  low-states id low keeps = record { states = all-set (IsTrueSlot b.case b.cuts b.prices (best_cost b)) b.slots id (record (slot_at b id) { shown = Some low }) (keeps.states id no_slot) keeps.states }
+
   split-states : (id : ℕ) → KeepsStates b → KeepsStates (Step.noted (Step.with_children b id) (entry.Split id))
   split-states id keeps =
       let new = slot.Split (length b.slots) in
@@ -160,6 +164,7 @@ module _ {Break : Type 0} (broken : Instance → Plan → Option Break) (b : Boo
         | Splits w id at lacks same ↦ subst KeepsStates (sym same) (split-states id keeps)
         | Closes old why id from at tells same ↦ subst KeepsStates (sym same) (turned-states id (slot.Closed why) b.used b.ended (entry.Close id why) keeps tells)
         | Parks w id c p at tells same ↦ subst KeepsStates (sym same) (turned-states id (slot.Parked c p) b.used b.ended (entry.Park id c p) keeps tells)
+        | Shows id low grows may same ↦ subst KeepsStates (sym same) (low-states id low keeps)
         | Posts cut grows good own same ↦ subst KeepsStates (sym same) (posted-states cut keeps)
         | Prices prices grows good own same ↦ subst KeepsStates (sym same) (priced-states prices keeps)
         | Replaces plan grows cheaper same ↦ subst KeepsStates (sym same) (replaced-states plan cheaper keeps)

@@ -7,16 +7,17 @@ use Rattle.lock_model.specs.declared.group.Group.{Group}
 use Rattle.lock_model.specs.declared.plan.Plan.{Plan}
 use Rattle.refute_rules.specs.Cuts.{Cut}
 use Rattle.book_rules.specs.declared.book.Entry.{Entry}
+use Rattle.book_rules.specs.declared.book.ShownLow.{ShownLow}
 use Rattle.book_rules.specs.Events.{Event, Reply, is_acceptance}
 use Rattle.book_rules.specs.declared.book.Entry.TheVariants as entry
-use Rattle.book_rules.specs.Book.{Book, slot_at, best_cost, first_slot, has_slot, is_back, is_held, is_held_by, group_at}
-use Rattle.book_rules.specs.Events.{take, split, close, post, post_prices, close_price, close_swept, park, replace, release}
-use Rattle.book_rules.specs.Events.{Node, Made, Closed, Parked, Replaced, Released, Ended, NodesSpent, Idle, Done, NotHeld, Whole, OtherDeck, OtherPrices, NotCheaper, Clashes}
+use Rattle.book_rules.specs.Book.{Book, slot_at, best_cost, first_slot, has_slot, is_back, is_held, is_held_by, is_live, group_at}
+use Rattle.book_rules.specs.Events.{take, split, close, post, post_prices, close_price, close_swept, show_low, park, replace, release}
+use Rattle.book_rules.specs.Events.{Node, Made, Closed, LowShown, Parked, Replaced, Released, Ended, NodesSpent, Idle, Done, NotHeld, Whole, OtherDeck, OtherPrices, NotCheaper, Clashes}
 use Rattle.lock_rules.specs.Plan.{cost_of}
 use Rattle.book_rules.specs.Tests.{has_clash, is_own_cut}
 use Rattle.book_rules.specs.NextSlot
 use Rattle.book_rules.specs.Step
-use Rattle.book_rules.proofs.ClosingLemmas.{MayRefuse, may-refuse, may-refuse_price, may-refuse_sweep}
+use Rattle.book_rules.proofs.ClosingLemmas.{MayRefuse, may-refuse, may-refuse_price, may-refuse_sweep, may-refuse_low}
 use Rattle.closing_rules.specs.declared.grounds.Ground.{Ground}
 use Rattle.closing_rules.specs.declared.grounds.Ground.TheVariants as by
 
@@ -29,6 +30,7 @@ entry_of (post cut) = entry.Post
 entry_of (post_prices prices) = entry.Prices
 entry_of (close_price id number shown) = entry.Close id (by.Price number)
 entry_of (close_swept id number swept) = entry.Close id (by.Swept number)
+entry_of (show_low id number shown) = entry.ShowLow id (record { prices = number; cost = shown.cost })
 entry_of (park id c p deck turns) = entry.Park id c p
 entry_of (replace plan) = entry.Replace
 entry_of (release w) = entry.Release w
@@ -115,6 +117,13 @@ module _ {Break : Type 0} (broken : Instance → Plan → Option Break) (b : Boo
   close-step e id why no_cut no_plan no_prices own None refuses =
       plain e (Step.closed b id why) Closed no_cut no_plan no_prices refl (ap (λ x. b.history ++ x ∷ []) own) refl refl refl refl refl
 
+  -- an event that shows this of slot id, unless it is refused
+  show-step : (e : Event) (id : ℕ) (low : ShownLow) → cuts_of e ≡ [] → plans_of e ≡ [] → prices_of e ≡ [] → entry.ShowLow id low ≡ entry_of e
+      → (o : Option (Reply Break)) → MayRefuse o → Is e (Step.show_unless b id low o)
+  show-step e id low no_cut no_plan no_prices own (Some r) refuses = Refused refuses refl
+  show-step e id low no_cut no_plan no_prices own None refuses =
+      plain e (Step.low_shown b id low) LowShown no_cut no_plan no_prices refl (ap (λ x. b.history ++ x ∷ []) own) refl refl refl refl refl
+
   park_group-step : (id c p : ℕ) (deck : Deck) (turns : ℕ) (o : Option Group) → Is (park id c p deck turns) (Step.park_group b id c p deck turns o)
   park_group-step id c p deck turns None = Refused refl refl
   park_group-step id c p deck turns (Some g) =
@@ -157,6 +166,11 @@ module _ {Break : Type 0} (broken : Instance → Plan → Option Break) (b : Boo
       let refusal = Step.sweep_refusal b id number swept (slice_get b.prices number) in
       refuse_or (close_swept id number swept) (not (Step.may_close b id)) (NotHeld id) (Step.close_unless b id (by.Swept number) refusal) refl
       (close-step (close_swept id number swept) id (by.Swept number) refl refl refl refl refusal (may-refuse_sweep b id Break number swept (slice_get b.prices number)))
+  each-step (show_low id number shown) =
+      let low : ShownLow = record { prices = number; cost = shown.cost } in
+      let refusal = Step.low_refusal b id number shown (slice_get b.prices number) in
+      refuse_or (show_low id number shown) (not (is_live (slot_at b id).state)) (NotHeld id) (Step.show_unless b id low refusal) refl
+      (show-step (show_low id number shown) id low refl refl refl refl refusal (may-refuse_low b id Break number shown (slice_get b.prices number)))
   each-step (park id c p deck turns) =
       let onwards = Step.park_group b id c p deck turns (group_at (slot_at b id).node c p) in
       refuse_or (park id c p deck turns) (not (is_held (slot_at b id).state)) (NotHeld id) onwards refl (park_group-step id c p deck turns (group_at (slot_at b id).node c p))

@@ -1,10 +1,11 @@
 -- How the counts of slots change.
-use Rattle.std.proofs.Common.{◌≡◌, ℕ, zero, suc, ◌+◌, ◌<◌, ◌≤◌, List, [], ◌∷◌, ◌++◌, length, map, refl, sym, ap, subst, arith, Bool, true, false, cond, ◌&&◌, ◌||◌, slice_index_or, slice_set, nat_le, true≢false}
+use Rattle.std.proofs.Common.{◌≡◌, ℕ, zero, suc, ◌+◌, ◌<◌, ◌≤◌, List, [], ◌∷◌, ◌++◌, length, map, refl, sym, ap, subst, arith, Bool, true, false, cond, ◌&&◌, ◌||◌, Some, slice_index_or, slice_set, nat_le, true≢false}
 use Rattle.std.proofs.lemmas.Bool.{and_parts}
 use Rattle.lock_model.specs.declared.instance.Instance.{Instance}
 use Rattle.lock_model.specs.declared.group.Group.{Group}
 use Rattle.book_rules.specs.declared.book.SlotState.{SlotState}
 use Rattle.book_rules.specs.declared.book.SlotState.TheVariants as slot
+use Rattle.book_rules.specs.declared.book.ShownLow.{ShownLow}
 use Rattle.book_rules.specs.Book.{Slot, Book, no_slot, slot_at, bound_at, is_fresh, is_back, is_parked}
 use Rattle.book_rules.specs.NextSlot.{is_split}
 use Rattle.book_rules.specs.Step
@@ -28,6 +29,10 @@ pub count-turned : (test : SlotState → Bool) (b : Book) (id : ℕ) (old new : 
 count-turned test b id old new at =
     subst (λ u. count_slots test (Step.with_state b id new).slots + one (test u) ≡ count_slots test b.slots + one (test new)) at.is
     (count-set test b.slots id (record (slot_at b id) { state = new }) at.known)
+
+-- where a cost is shown of slot id
+pub count-low : (test : SlotState → Bool) (b : Book) (id : ℕ) (low : ShownLow) → id < length b.slots → count_slots test (Step.with_low b id low).slots ≡ count_slots test b.slots
+count-low test b id low known = omega (arith, count-set test b.slots id (record (slot_at b id) { shown = Some low }) known)
 
 pub count-append : (test : SlotState → Bool) (xs ys : List Slot) → count_slots test (xs ++ ys) ≡ count_slots test xs + count_slots test ys
 count-append test [] ys = omega arith

@@ -1,5 +1,5 @@
 -- Which slots a book has after a change.
-use Rattle.std.proofs.Common.{◌≡◌, ◌≢◌, ℕ, zero, suc, ◌+◌, ◌-◌, ◌<◌, ◌≤◌, List, [], ◌∷◌, ◌++◌, length, map, refl, sym, ap, ◌∙◌, arith, slice_index_or, slice_set, inl, inr, length-append}
+use Rattle.std.proofs.Common.{◌≡◌, ◌≢◌, ℕ, zero, suc, ◌+◌, ◌-◌, ◌<◌, ◌≤◌, List, [], ◌∷◌, ◌++◌, length, map, refl, sym, ap, ◌∙◌, arith, Some, None, slice_index_or, slice_set, inl, inr, length-append}
 use Rattle.std.proofs.lemmas.Bool.Decides.{leb_tells, eqb_tells}
 use Rattle.std.proofs.lemmas.List.{length-set, get_or-set_same, get_or-set_other, get_or-append-add, get_or_past}
 use Rattle.std.proofs.Math.ListN.{get_or-append}
@@ -9,6 +9,7 @@ use Rattle.lock_rules.specs.Node.{root_lines}
 use Rattle.lock_rules.specs.Children.{children_of}
 use Rattle.book_rules.specs.declared.book.SlotState.{SlotState}
 use Rattle.book_rules.specs.declared.book.SlotState.TheVariants as slot
+use Rattle.book_rules.specs.declared.book.ShownLow.{ShownLow}
 use Rattle.book_rules.specs.Book.{Slot, Book, no_slot, slot_at, best_cost, new_slot}
 use Rattle.book_rules.specs.Family.{child_node}
 use Rattle.book_rules.specs.Step
@@ -26,6 +27,21 @@ turned-at b id new known other =
       | inl y ↦ Turned y.1 (ap (λ k. slice_index_or (slice_set b.slots id s) k no_slot) y.1 ∙ get_or-set_same b.slots id s no_slot known)
       | inr n ↦ Untouched n.1 (get_or-set_other b.slots id other s no_slot n.1)
     ]
+
+-- a slot without what is shown of it
+abbrev pub unshown : Slot → Slot
+unshown s = record s { shown = None }
+
+-- where a cost is shown of slot id, each slot is else as it was
+pub low-at : (b : Book) (id : ℕ) (low : ShownLow) (other : ℕ) → unshown (slice_index_or (Step.with_low b id low).slots other no_slot) ≡ unshown (slot_at b other)
+low-at b id low other = in_list b.slots id other
+  where
+    in_list : (xs : List Slot) (id other : ℕ) → unshown (slice_index_or (slice_set xs id (record (slice_index_or xs id no_slot) { shown = Some low })) other no_slot) ≡ unshown (slice_index_or xs other no_slot)
+    in_list [] id other = refl
+    in_list (x ∷ xs) zero zero = refl
+    in_list (x ∷ xs) zero (suc other) = refl
+    in_list (x ∷ xs) (suc id) zero = refl
+    in_list (x ∷ xs) (suc id) (suc other) = in_list xs id other
 
 -- child k of a list of children
 pub child-at : (I : Instance) (cost parent depth number : ℕ) (ls : List (List (List Group))) (k : ℕ) → k < length ls

@@ -15,9 +15,9 @@ use Rattle.lock_rules.specs.Node.{root}
 use Rattle.book_rules.specs.Events.{Event, IsOwed}
 use Rattle.book_rules.specs.Step
 use Rattle.book_rules.specs.Workers.{KeepsWorkers}
-use Rattle.book_rules.proofs.MoveLemmas.{Stays, TakesBack, TakesFresh, Splits, Closes, Parks, Posts, Prices, Replaces, Ends, GivesBack, IsRunning, HoldsNone, turned, each-move}
+use Rattle.book_rules.proofs.MoveLemmas.{Stays, TakesBack, TakesFresh, Splits, Closes, Parks, Shows, Posts, Prices, Replaces, Ends, GivesBack, IsRunning, HoldsNone, turned, each-move}
 use Rattle.book_rules.proofs.TallyLemmas.{Kept, Closed, outdone-is}
-use Rattle.book_rules.proofs.TurnLemmas.{Turned, Untouched, turned-at, Parent, Old, Child, Past, split-at, kid, outdone-at}
+use Rattle.book_rules.proofs.TurnLemmas.{Turned, Untouched, turned-at, Parent, Old, Child, Past, split-at, kid, outdone-at, low-at}
 use Rattle.closing_rules.specs.declared.grounds.Ground.TheVariants as by
 
 -- slot id of the slots is held by worker w
@@ -118,6 +118,7 @@ module _ {Break : Type 0} (broken : Instance → Plan → Option Break) (b : Boo
             subst KeepsWorkers (sym same) (same-workers b (turned b id (slot.Closed why) b.used b.ended (entry.Close id why)) keeps refl (λ other v h. (turned-holds b id (slot.Closed why) at.known refl other v h).0))
         | Parks w id c p at tells same ↦
             subst KeepsWorkers (sym same) (same-workers b (turned b id (slot.Parked c p) b.used b.ended (entry.Park id c p)) keeps refl (λ other v h. (turned-holds b id (slot.Parked c p) at.known refl other v h).0))
+        | Shows id low grows may same ↦ subst KeepsWorkers (sym same) (same-workers b (Step.low_shown b id low) keeps refl (λ other v h. sym (ap (λ (s : Slot). s.state) (low-at b id low other)) ∙ h))
         | Posts cut grows good own same ↦ subst KeepsWorkers (sym same) (same-workers b (Step.noted (record b { cuts = b.cuts ++ cut ∷ [] }) entry.Post) keeps refl (λ other v h. h))
         | Prices prices grows good own same ↦ subst KeepsWorkers (sym same) (same-workers b (Step.noted (record b { prices = b.prices ++ prices ∷ [] }) entry.Prices) keeps refl (λ other v h. h))
         | Replaces plan grows cheaper same ↦ subst KeepsWorkers (sym same) (same-workers b (Step.replaced b plan) keeps refl (outdone-holds (cost_of b.case.instance plan) b.slots))
