@@ -32,9 +32,9 @@ pub is-stored : (I : Instance) (ss : List StoredSlot) (id : ℕ) (r : StoredSlot
 is-stored I ss id r known is = subst (λ q. IsStoredAs q (slot_in (slots_of I ss) id)) (sym is) (stored-at I [] ss id r known)
 
 pub stored-change : (I : Instance) (ss : List StoredSlot) (id : ℕ) (r : StoredSlot) (state : SlotState) → id < length ss → r ≡ slice_index_or ss id r
-    → slots_of I (slice_set ss id (record { bound = r.bound; state = state; parent = r.parent; number = r.number })) ≡ set_state (slots_of I ss) id state
+    → slots_of I (slice_set ss id (record { bound = r.bound; shown = r.shown; state = state; parent = r.parent; number = r.number })) ≡ set_state (slots_of I ss) id state
 stored-change I ss id r state known is =
-    ap (λ (q : StoredSlot). slots_of I (slice_set ss id (record { bound = q.bound; state = state; parent = q.parent; number = q.number }))) is
+    ap (λ (q : StoredSlot). slots_of I (slice_set ss id (record { bound = q.bound; shown = q.shown; state = state; parent = q.parent; number = q.number }))) is
     ∙ stored-set I [] ss id r state known
 
 -- behind the last slot there is none

@@ -12,6 +12,8 @@ pub mod SettleLemmas
 pub mod CloseLemmas
 pub mod ShowingLemmas
 pub mod SweepingLemmas
+pub mod LowLemmas
+pub mod KeepingLemmas
 pub mod MissingLemmas
 pub mod HandOverLemmas
 pub mod EventLemmas

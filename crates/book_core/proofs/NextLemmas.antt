@@ -23,7 +23,7 @@ use Rattle.book_core.proofs.StoredLemmas.{stored-at}
 use Rattle.book_core.proofs.KeptLemmas.{length-slots, slot-past}
 use Rattle.closing_rules.specs.declared.grounds.Ground.TheVariants as by
 
-stored-past : (ss : List StoredSlot) (id : ℕ) → length ss ≤ id → stored_at ss id ≡ record { bound = 0; state = slot.Closed by.Bound; parent = 0; number = 0 }
+stored-past : (ss : List StoredSlot) (id : ℕ) → length ss ≤ id → stored_at ss id ≡ record { bound = 0; shown = None; state = slot.Closed by.Bound; parent = 0; number = 0 }
 stored-past [] id past = refl
 stored-past (s ∷ ss) zero past = absurd (omega (arith, past))
 stored-past (s ∷ ss) (suc id) past = stored-past ss id (omega (arith, past))
@@ -31,7 +31,7 @@ stored-past (s ∷ ss) (suc id) past = stored-past ss id (omega (arith, past))
 -- what is stored at any number, behind the last slot too
 pub stored-any : (I : Instance) (ss : List StoredSlot) (id : ℕ) → IsStoredAs (stored_at ss id) (slot_in (slots_of I ss) id)
 stored-any I ss id = elim (leb_tells (suc id) (length ss)) [
-  | inl y ↦ stored-at I [] ss id (record { bound = 0; state = slot.Closed by.Bound; parent = 0; number = 0 }) y.1
+  | inl y ↦ stored-at I [] ss id (record { bound = 0; shown = None; state = slot.Closed by.Bound; parent = 0; number = 0 }) y.1
   | inr n ↦
       let past : length ss ≤ id = omega (arith, n.1) in
       let is = slot-past (slots_of I ss) id (omega (arith, past, length-slots I ss)) in
@@ -40,6 +40,7 @@ stored-any I ss id = elim (leb_tells (suc id) (length ss)) [
         parent = ap (λ (s : Slot). s.parent) is ∙ ap (λ (s : StoredSlot). s.parent) (sym stored);
         number = ap (λ (s : Slot). s.number) is ∙ ap (λ (s : StoredSlot). s.number) (sym stored);
         bound = ap (λ (s : Slot). s.bound) is ∙ ap (λ (s : StoredSlot). s.bound) (sym stored);
+        shown = ap (λ (s : Slot). s.shown) is ∙ ap (λ (s : StoredSlot). s.shown) (sym stored);
         state = ap (λ (s : Slot). s.state) is ∙ ap (λ (s : StoredSlot). s.state) (sym stored);
       }
 ]

@@ -22,7 +22,7 @@ use Rattle.closing_rules.specs.declared.grounds.Ground.TheVariants as by
 
 -- what is stored once slot id has another state
 abbrev pub restated : StoredSlot → SlotState → StoredSlot
-restated r state = record { bound = r.bound; state = state; parent = r.parent; number = r.number }
+restated r state = record { bound = r.bound; shown = r.shown; state = state; parent = r.parent; number = r.number }
 
 module _ (a : Inside) (b : Book) (same : seen a ≡ b) (id : ℕ) where
   pub slots-known : id < length b.slots → id < length a.slots.items

@@ -8,7 +8,7 @@ use Rattle.mooring_rules.specs.declared.breaks.BrokenPlan.{BrokenPlan}
 use Rattle.mooring_rules.specs.declared.breaks.BrokenPlan.TheVariants.{Double}
 use Rattle.book_rules.specs.Book.{Case, Book, best_cost, opening_book}
 use Rattle.book_rules.specs.Events as machine
-use Rattle.book_rules.specs.Events.{Event, IsOwed, take, split, close, post, post_prices, close_price, close_swept, park, replace, release}
+use Rattle.book_rules.specs.Events.{Event, IsOwed, take, split, close, post, post_prices, close_price, close_swept, show_low, park, replace, release}
 use Rattle.book_rules.specs.Step
 use Rattle.book_rules.specs.Step.{step}
 use Rattle.closing_rules.specs.Laws.{TreeLaws}
@@ -59,6 +59,7 @@ step-keeps b (post cut) found keeps owed judged = event-keeps always always-soun
 step-keeps b (post_prices prices) found keeps owed judged = event-keeps always always-sound b (laws b.case.instance) keeps (post_prices prices) owed
 step-keeps b (close_price id number shown) found keeps owed judged = event-keeps always always-sound b (laws b.case.instance) keeps (close_price id number shown) owed
 step-keeps b (close_swept id number swept) found keeps owed judged = event-keeps always always-sound b (laws b.case.instance) keeps (close_swept id number swept) owed
+step-keeps b (show_low id number shown) found keeps owed judged = event-keeps always always-sound b (laws b.case.instance) keeps (show_low id number shown) owed
 step-keeps b (park id c p deck turns) found keeps owed judged = event-keeps always always-sound b (laws b.case.instance) keeps (park id c p deck turns) owed
 step-keeps b (replace plan) found keeps owed judged = replace-keeps b plan found keeps judged
 step-keeps b (release w) found keeps owed judged = event-keeps always always-sound b (laws b.case.instance) keeps (release w) owed
@@ -83,6 +84,7 @@ step-replays b (post cut) found old judged = record { replay = λ f passes. even
 step-replays b (post_prices prices) found old judged = record { replay = λ f passes. event-replayed f b (post_prices prices) (old.replay f passes) }
 step-replays b (close_price id number shown) found old judged = record { replay = λ f passes. event-replayed f b (close_price id number shown) (old.replay f passes) }
 step-replays b (close_swept id number swept) found old judged = record { replay = λ f passes. event-replayed f b (close_swept id number swept) (old.replay f passes) }
+step-replays b (show_low id number shown) found old judged = record { replay = λ f passes. event-replayed f b (show_low id number shown) (old.replay f passes) }
 step-replays b (park id c p deck turns) found old judged = record { replay = λ f passes. event-replayed f b (park id c p deck turns) (old.replay f passes) }
 step-replays b (replace plan) found old judged = record { replay = λ f passes. same-found f passes b plan found judged (old.replay f passes) }
 step-replays b (release w) found old judged = record { replay = λ f passes. event-replayed f b (release w) (old.replay f passes) }

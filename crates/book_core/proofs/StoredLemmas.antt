@@ -22,7 +22,7 @@ length-slots_after I done (s ∷ ss) = ap suc (length-slots_after I (done ++ nod
 
 pub stored-at : (I : Instance) (done : List Node) (ss : List StoredSlot) (i : ℕ) (d : StoredSlot) → i < length ss → IsStoredAs (slice_index_or ss i d) (slice_index_or (slots_after I done ss) i no_slot)
 stored-at I done [] i d known = absurd (omega (arith, known))
-stored-at I done (s ∷ ss) zero d known = record { parent = refl; number = refl; bound = refl; state = refl }
+stored-at I done (s ∷ ss) zero d known = record { parent = refl; number = refl; bound = refl; shown = refl; state = refl }
 stored-at I done (s ∷ ss) (suc i) d known = stored-at I (done ++ node_after I done s ∷ []) ss i d (omega (arith, known))
 
 -- a state that is set in a stored slot is set in the slot

@@ -3,12 +3,12 @@ use Rattle.std.proofs.Common.{◌≡◌, ℕ, suc, ◌+◌, ◌<◌, List, [], �
 use Rattle.std.specs.List.{list_any, position, position_or_len}
 use Rattle.lock_model.specs.declared.instance.Instance.{Instance}
 use Rattle.book_rules.specs.declared.book.SlotState.{SlotState}
-use Rattle.book_rules.specs.Book.{Book, Slot, is_live, is_parked, first_slot}
+use Rattle.book_rules.specs.Book.{Book, Slot, low_by, slot_low, is_live, is_parked, first_slot}
 use Rattle.lock_rules.specs.Node.{Node}
 use Rattle.book_rules.proofs.SlotLemmas.{first_slot-at}
 use Rattle.book_core.specs.declared.stored_slot.StoredSlot.{StoredSlot}
 use Rattle.book_core.specs.Stored.{node_after, slot_with, slots_after, slots_of}
-use Rattle.book_core.specs.Summing.{live_bounds}
+use Rattle.book_core.specs.Summing.{live_lows}
 
 module _ (I : Instance) where
   any-after : (test : SlotState → Bool) (done : List Node) (ss : List StoredSlot) → list_any (λ (s : StoredSlot). test s.state) ss ≡ list_any (λ (s : Slot). test s.state) (slots_after I done ss)
@@ -29,17 +29,17 @@ module _ (I : Instance) where
   pub position-stored : (test : SlotState → Bool) (ss : List StoredSlot) → position (λ (s : StoredSlot). test s.state) ss ≡ position (λ (s : Slot). test s.state) (slots_of I ss)
   position-stored test ss = λ i. cond (nat_lt (place-after test [] ss i) (length-after [] ss i)) (Some (place-after test [] ss i)) None
 
-  live-one : (s : StoredSlot) (n : Node) (t : Bool) (ss : List StoredSlot) (rest : List Slot) → map (λ (s : StoredSlot). s.bound) (filter (λ (s : StoredSlot). is_live s.state) ss) ≡ map (λ (s : Slot). s.bound) (filter (λ (s : Slot). is_live s.state) rest)
-      → map (λ (s : StoredSlot). s.bound) (cond t (s ∷ filter (λ (s : StoredSlot). is_live s.state) ss) (filter (λ (s : StoredSlot). is_live s.state) ss))
-      ≡ map (λ (s : Slot). s.bound) (cond t (slot_with s n ∷ filter (λ (s : Slot). is_live s.state) rest) (filter (λ (s : Slot). is_live s.state) rest))
-  live-one s n true ss rest same = ap (λ l. s.bound ∷ l) same
+  live-one : (s : StoredSlot) (n : Node) (t : Bool) (ss : List StoredSlot) (rest : List Slot) → map (λ (s : StoredSlot). low_by s.bound s.shown) (filter (λ (s : StoredSlot). is_live s.state) ss) ≡ map slot_low (filter (λ (s : Slot). is_live s.state) rest)
+      → map (λ (s : StoredSlot). low_by s.bound s.shown) (cond t (s ∷ filter (λ (s : StoredSlot). is_live s.state) ss) (filter (λ (s : StoredSlot). is_live s.state) ss))
+      ≡ map slot_low (cond t (slot_with s n ∷ filter (λ (s : Slot). is_live s.state) rest) (filter (λ (s : Slot). is_live s.state) rest))
+  live-one s n true ss rest same = ap (λ l. low_by s.bound s.shown ∷ l) same
   live-one s n false ss rest same = same
 
-  live-after : (done : List Node) (ss : List StoredSlot) → live_bounds ss ≡ map (λ (s : Slot). s.bound) (filter (λ (s : Slot). is_live s.state) (slots_after I done ss))
+  live-after : (done : List Node) (ss : List StoredSlot) → live_lows ss ≡ map slot_low (filter (λ (s : Slot). is_live s.state) (slots_after I done ss))
   live-after done [] = refl
   live-after done (s ∷ ss) = live-one s (node_after I done s) (is_live s.state) ss (slots_after I (done ++ node_after I done s ∷ []) ss) (live-after (done ++ node_after I done s ∷ []) ss)
 
-  pub live-stored : (ss : List StoredSlot) → live_bounds ss ≡ map (λ (s : Slot). s.bound) (filter (λ (s : Slot). is_live s.state) (slots_of I ss))
+  pub live-stored : (ss : List StoredSlot) → live_lows ss ≡ map slot_low (filter (λ (s : Slot). is_live s.state) (slots_of I ss))
   live-stored ss = live-after [] ss
 
 -- ---- the parked group

@@ -1,5 +1,5 @@
 -- What every book keeps.
-use Rattle.std.specs.Prelude.{ℕ, Bool, ◌≡◌, ◌+◌, ◌*◌, ◌≤◌, List, length, None}
+use Rattle.std.specs.Prelude.{ℕ, Bool, ◌≡◌, ◌+◌, ◌*◌, ◌≤◌, List, length, count_by, None}
 use Rattle.std.specs.declared.option.Option.{Option}
 use Rattle.lock_model.specs.declared.limits.TheConstants.{WORKERS_AND_DRIVER}
 use Rattle.lock_model.specs.declared.instance.Instance.{Instance}
@@ -7,10 +7,12 @@ use Rattle.lock_model.specs.declared.plan.Plan.{Plan}
 use Rattle.lock_rules.specs.Plan.{IsLegal}
 use Rattle.lock_rules.specs.Throughput.{throughput_of}
 use Rattle.mooring_rules.specs.declared.breaks.BrokenPlan.{BrokenPlan}
+use Rattle.book_rules.specs.declared.book.Entry.{Entry}
 use Rattle.book_rules.specs.Book.{Book, Slot, best_cost}
 use Rattle.book_rules.specs.Cover.{KeepsBook}
 use Rattle.book_rules.specs.Parts.{KeepsParts}
 use Rattle.book_rules.specs.Cheap.{opening_cost}
+use Rattle.book_rules.specs.History.{is_show_low}
 use Rattle.book_rules.specs.Room.{count_false}
 use Rattle.book_rules.specs.Replay.{IsReplayed}
 use Rattle.book_core.specs.Case.{IsCase}
@@ -45,6 +47,15 @@ pub record AreCosts (b : Book) (best opening throughput : ℕ) : Type 0 where
   pub opening_is : opening ≡ opening_cost b
   pub throughput_is : throughput ≡ throughput_of b.case.instance
 
--- room for the history: what was taken at opening, and one entry for each posting, of cuts or prices, and each replace
-pub record HasRoom (nodes cuts plans prices capacity : ℕ) : Type 0 where
-  pub enough : 3 * nodes + 32 + cuts + plans + prices ≤ capacity
+-- the entries of costs that were shown are so many
+pub record CountsLows (history : List Entry) (lows : ℕ) : Type 0 where
+  pub count : lows ≡ count_by is_show_low history
+
+-- room for the history: what was taken at opening, and one entry for each posting, of cuts or prices, each replace and each cost that
+-- was shown
+pub record HasRoom (nodes cuts plans prices lows capacity : ℕ) : Type 0 where
+  pub enough : 3 * nodes + 32 + cuts + plans + prices + lows ≤ capacity
+
+-- room for one entry more than that
+pub record IsMoreRoom (b : Book) (entries : ℕ) : Type 0 where
+  pub count : entries ≡ 3 * b.case.nodes + 33 + length b.cuts + length b.plans + length b.prices + count_by is_show_low b.history

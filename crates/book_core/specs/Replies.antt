@@ -8,10 +8,11 @@ use Rattle.mooring_rules.specs.declared.breaks.BrokenPlan.{BrokenPlan}
 use Rattle.mooring_rules.specs.PlanBreaks.{IsFirstBrokenPlan}
 use Rattle.master_branch.specs.Node.{IsNodeOf}
 use Rattle.closing_rules.specs.declared.grounds.Ground.{Ground}
-use Rattle.book_rules.specs.Book.{Book, slot_at, best_cost, is_held}
+use Rattle.book_rules.specs.declared.book.ShownLow.{ShownLow}
+use Rattle.book_rules.specs.Book.{Book, slot_at, slot_low, best_cost, is_held}
 use Rattle.book_rules.specs.Events as machine
 use Rattle.book_rules.specs.Events.{Event, replace}
-use Rattle.book_rules.specs.Step.{step, closed}
+use Rattle.book_rules.specs.Step.{step, closed, low_shown}
 use Rattle.book_core.specs.declared.reply.Grant.{Grant}
 use Rattle.book_core.specs.declared.reply.Grant.TheVariants as grant
 use Rattle.book_core.specs.declared.reply.Refusal.{Refusal}
@@ -78,6 +79,13 @@ pub record Answers (old : Book) (e : Event) (r : Reply) (new : Book) : Type 0 wh
 pub data IsShutAt (old : Book) (id : ℕ) (why : Ground) (cost : ℕ) (r : Reply) (new : Book) : Type 0 where
   IsCheaper : cost < best_cost old → r ≡ reply.Refused (refusing.Cheaper cost (best_cost old)) → new ≡ old → IsShutAt old id why cost r new
   IsShut : best_cost old ≤ cost → r ≡ reply.Closed → new ≡ closed old id why → IsShutAt old id why cost r new
+
+-- this is shown of slot id where its cost is more than is known of the slot, and there is memory
+pub data IsLowAt (old : Book) (id : ℕ) (low : ShownLow) (r : Reply) (new : Book) : Type 0 where
+  IsLower : low.cost ≤ slot_low (slot_at old id) → r ≡ reply.Refused (refusing.Lower low.cost (slot_low (slot_at old id))) → new ≡ old
+      → IsLowAt old id low r new
+  IsHigher : slot_low (slot_at old id) < low.cost → r ≡ reply.LowShown → new ≡ low_shown old id low → IsLowAt old id low r new
+  IsUnkept : r ≡ reply.Refused refusing.NoMemory → new ≡ old → IsLowAt old id low r new
 
 -- there was no memory, and the book is as it was
 pub record Wants (old : Book) (r : Reply) (new : Book) : Type 0 where

@@ -6,7 +6,7 @@ use Rattle.flow_bounds.specs.Roster.{IsRosterOf}
 use Rattle.book_core.specs.Stored.{slots_of}
 use Rattle.book_core.specs.Hands.{ids_of, AreNodes}
 use Rattle.book_core.specs.Path.{IsPath}
-use Rattle.book_core.specs.Keeps.{IsSound, AreTables, AreCosts, HasRoom}
+use Rattle.book_core.specs.Keeps.{IsSound, AreTables, AreCosts, CountsLows, HasRoom}
 
 abbrev pub seen : Inside → Told
 seen a = record {
@@ -30,4 +30,5 @@ pub record IsKept (a : Inside) : Type 0 where
   pub path : IsPath a.case.instance (slots_of a.case.instance a.slots.items) a.path
   pub roster_is : IsRosterOf a.case.instance a.roster
   pub costs : AreCosts (seen a) a.best_cost a.opening_cost a.throughput
-  pub room : HasRoom a.case.nodes (length a.cuts) (length a.plans.items) (length a.prices.items) (vec_capacity a.history)
+  pub lows : CountsLows a.history.items a.shown_lows
+  pub room : HasRoom a.case.nodes (length a.cuts) (length a.plans.items) (length a.prices.items) a.shown_lows (vec_capacity a.history)

@@ -20,8 +20,8 @@ use price_terms::Prices;
 use std::marker::Model;
 
 /// The case, the opening plan, the slots, the cuts, the prices, the plans that replaced the opening
-/// one, the best plan, the number of nodes used, which of nine workers ended, and the history of
-/// accepted events.
+/// one, the best plan, the number of nodes used, which of nine workers ended, the history of accepted
+/// events, and how many costs were shown.
 /// It keeps all that `specs/Keeps` names. Slots are numbered from 0, the root; they store no nodes,
 /// and take 64 bytes each. Of each cut the chamber and the ships lie in a row of their own too.
 #[derive(Drop)]
@@ -40,6 +40,7 @@ pub struct Book {
     pub(crate) used: u32,
     pub(crate) ended: [bool; WORKERS_AND_DRIVER],
     pub(crate) history: Vec<Entry>,
+    pub(crate) shown_lows: u32,
     pub(crate) hands: [Option<Hand>; WORKERS_AND_DRIVER],
     pub(crate) path: Path,
     pub(crate) back: BackList,

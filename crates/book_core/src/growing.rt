@@ -1,5 +1,6 @@
 //! Memory for what grows.
-ghost use Rattle.std.specs.Prelude.{◌≡◌, ◌+◌, ◌*◌, ◌≤◌, ◌<◌, length, IfOk, vec_len, vec_capacity};
+ghost use Rattle.std.specs.Prelude.{◌≡◌, ◌≤◌, ◌<◌, length, IfOk, vec_len, vec_capacity};
+ghost use Rattle.book_core.specs.Keeps.{IsMoreRoom};
 
 use crate::book::Book;
 use book_rules::Entry;
@@ -36,9 +37,10 @@ pub(crate) fn make_room<T>(
 }
 
 impl Book {
-    // How many entries the history needs room for once a cut, prices or a plan are kept.
+    // How many entries the history needs room for once a cut, prices, a plan or a cost that was shown
+    // are kept.
     pub(crate) fn entries_needed(&self) -> Result<usize, NoMemory>
-        ensures count { IfOk result (λ n. n ≡ 3 * self.now.case.nodes + 33 + length self.now.cuts + length self.now.plans + length self.now.prices) }
+        ensures count { IfOk result (IsMoreRoom self.now) }
         ensures more { IfOk result (λ n. length self.now.history < n) }
     {
         let most = u32::MAX as usize;
@@ -46,6 +48,6 @@ impl Book {
             return Err(NoMemory);
         }
         let kept = self.cuts.len() + self.plans.len() + self.prices.len();
-        Ok(3 * self.nodes() as usize + 33 + kept)
+        Ok(3 * self.nodes() as usize + 33 + kept + self.shown_lows as usize)
     }
 }

@@ -1,17 +1,18 @@
 //! The book of a search: the search tree with its open, held and closed slots, the cuts, the prices,
 //! the best plan, and the history of what was accepted.
 //!
-//! `open_book` opens a book with a legal plan. Its ten events are methods: each answers exactly what
+//! `open_book` opens a book with a legal plan. Its eleven events are methods: each answers exactly what
 //! the step of the book machine answers for its event, and leaves the book that the step leaves; a
-//! refusal leaves the book as it was. `split`, `post`, `post_prices` and `replace` take memory, and
-//! take it all before they change anything; the other events take none. `verdict` says what the book
+//! refusal leaves the book as it was. `split`, `post`, `post_prices`, `show_low` and `replace` take
+//! memory, and take it all before they change anything; the other events take none. `verdict` says what the book
 //! has shown. The type keeps what every event keeps (`Book::keeps`): the book is the replay of its
 //! history, the best plan is legal, and every legal plan cheaper than it lies under a slot that is
 //! open, held or parked. `every_list_keeps` is that law over every list of events.
 //!
 //! - Fields, opening and readers: `book`, `opening`, `finding`, `summing` (the verdict).
 //! - Events: `taking`, `splitting`, `closing`, `showing` (what was shown beside the book, by prices),
-//!   `sweeping` (what was swept beside it), `parking`, `posting`, `pricing`, `replacing`, `releasing`.
+//!   `sweeping` (what was swept beside it), `lows` (a cost that was shown is kept), `parking`, `posting`,
+//!   `pricing`, `replacing`, `releasing`.
 //!   What they change together: `moves`, `growing`.
 //! - Tables by which no event walks all slots but `replace`: `hands` (the slot that each worker
 //!   holds, a `hand`), `back_list` (the returned slots, nine at most, by rising number), `waiting`
@@ -49,6 +50,7 @@ mod hand;
 mod hands;
 mod hitting;
 mod laws;
+mod lows;
 mod moves;
 mod nodes;
 mod opening;

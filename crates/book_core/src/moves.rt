@@ -1,6 +1,7 @@
 //! What events change of a book.
 ghost use Rattle.std.specs.Prelude.{◌≡◌, ◌≤◌, true, false, slice_index_or, Some, None};
 ghost use Rattle.book_rules.specs.Book.{first_slot, is_held_by};
+ghost use Rattle.book_rules.specs.History.{is_show_low};
 ghost use Rattle.book_rules.specs.Step.{may_close, noted, with_state};
 ghost use Rattle.book_core.specs.Changes.{IsSettled, IsNextFree, handed, returned, finished};
 ghost use Rattle.book_core.specs.Keeps.{IsSound};
@@ -12,10 +13,11 @@ use book_rules::{Entry, SlotState};
 use lock_model::WORKERS;
 
 impl Book {
-    // A held or parked slot is parked or closed.
+    // A held or parked slot is parked or closed; the entry isn't of a cost that was shown.
     pub(crate) fn settle(&mut self, id: u32, state: SlotState, entry: Entry)
         requires from { may_close self.old id ≡ true }
         requires to { IsSettled state }
+        requires other { is_show_low entry ≡ false }
         requires sound { IsSound (noted (with_state self.old id state) entry) }
         ensures { self.new ≡ noted (with_state self.old id state) entry }
     {

@@ -1,5 +1,5 @@
 //! The nodes of slots: those in hands, and those that are made again.
-ghost use Rattle.std.specs.Prelude.{◌≡◌, ◌<◌, true, false, length, IfSome, IfNone};
+ghost use Rattle.std.specs.Prelude.{◌≡◌, ◌≤◌, ◌<◌, true, false, length, IfSome, IfNone};
 ghost use Rattle.lock_rules.specs.Arrival.{next_ship};
 ghost use Rattle.book_rules.specs.Book.{slot_at, is_held};
 ghost use Rattle.master_branch.specs.Node.{IsNodeOf};
@@ -58,6 +58,23 @@ impl Book {
     {
         let case = &self.case;
         self.roster.ship(&case.instance, depth)
+    }
+
+    /// The node of a slot; None exactly where there is no such slot. Where no worker holds the slot it
+    /// is made again step by step from the root's.
+    pub fn slot_node(&self, id: u32) -> Option<Node>
+        ensures known { IfSome result (λ _. id < length self.now.slots) }
+        ensures value { IfSome result (λ node. node ≡ (slot_at self.now id).node) }
+        ensures node { IfSome result (IsNodeOf self.now.case.instance) }
+        ensures none { IfNone result (length self.now.slots ≤ id) }
+    {
+        if id >= self.slots() {
+            return None;
+        }
+        match self.hand_of(id) {
+            Some(hand) => Some(hand.node.copy()),
+            None => Some(self.node_of(id)),
+        }
     }
 
     // The node of a slot, made step by step from the root's: for slots that no worker holds.

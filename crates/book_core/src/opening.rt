@@ -61,6 +61,7 @@ pub fn open_book(alloc: Global, case: &Case, plan: Plan) -> Result<Book, NoMemor
         used: 0,
         ended: [false; WORKERS_AND_DRIVER],
         history,
+        shown_lows: 0,
         hands: [None, None, None, None, None, None, None, None, None],
         path,
         back: BackList::new(),

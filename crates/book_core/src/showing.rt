@@ -1,12 +1,12 @@
 //! The event that closes a slot by what was shown of it beside the book: under its lock a book only
 //! compares, and works nothing out.
-ghost use Rattle.std.specs.Prelude.{◌≡◌, true, map, Some, None, slice_get, nat_eq, IfSome, IfNone};
+ghost use Rattle.std.specs.Prelude.{◌≡◌, ◌<◌, length, map, Some, None, slice_get, nat_eq, IfSome, IfNone};
 ghost use Rattle.std.specs.Cmp.Lexicographic.{pointwise};
 ghost use Rattle.book_rules.specs.Book.{slot_at};
 ghost use Rattle.book_rules.specs.Events.{close_price};
 ghost use Rattle.book_rules.specs.Same.{same_node};
 ghost use Rattle.book_rules.specs.Shown.{are_first_cuts};
-ghost use Rattle.book_rules.specs.Step.{may_close, is_shown};
+ghost use Rattle.book_rules.specs.Step.{is_shown};
 ghost use Rattle.book_core.specs.Replies.{Answers};
 ghost use Rattle.book_core.specs.Telling.{told_cut, told_shown};
 
@@ -39,9 +39,9 @@ impl Book {
         self.cuts.are_first(shown)
     }
 
-    // Whether this is the node of a held or parked slot.
+    // Whether this is the node of a slot.
     fn has_node(&self, id: u32, node: &Node) -> bool
-        requires { may_close self.now id ≡ true }
+        requires { id < length self.now.slots }
         ensures { result ≡ same_node node.now (slot_at self.now id).node }
     {
         match self.hand_of(id) {
@@ -52,8 +52,8 @@ impl Book {
 
     // Whether what was shown is of the book's instance, of this slot's node, of these prices and of
     // the first cuts of the book.
-    fn is_shown(&self, id: u32, prices: &Prices, shown: &Shown) -> bool
-        requires { may_close self.now id ≡ true }
+    pub(crate) fn is_shown(&self, id: u32, prices: &Prices, shown: &Shown) -> bool
+        requires { id < length self.now.slots }
         ensures { result ≡ is_shown self.now id prices.now (told_shown shown.now) }
     {
         if !self.is_of(shown.instance()) {

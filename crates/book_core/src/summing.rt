@@ -3,10 +3,10 @@ ghost use Rattle.std.specs.Prelude.{◌≡◌, ◌∷◌, ◌||◌, List, Some, 
 ghost use Rattle.std.specs.List.{list_any};
 ghost use Rattle.lock_rules.specs.Bound.{least_number};
 ghost use Rattle.flow_bounds.specs.Least.{least_told};
-ghost use Rattle.book_rules.specs.Book.{slot_at, is_fresh, is_back, is_held, is_parked, first_slot, has_slot};
+ghost use Rattle.book_rules.specs.Book.{slot_at, is_fresh, is_back, is_held, is_parked, is_live, first_slot, has_slot};
 ghost use Rattle.book_rules.specs.Verdict.{low_of, verdict_of, parked_verdict};
 ghost use Rattle.book_core.specs.declared.stored_slot.StoredSlot.{StoredSlot as Stored};
-ghost use Rattle.book_core.specs.Summing.{live_bounds};
+ghost use Rattle.book_core.specs.Summing.{live_lows};
 
 use crate::book::Book;
 use crate::stored_slot::StoredSlot;
@@ -33,6 +33,13 @@ fn is_parked(state: SlotState) -> bool
     }
 }
 
+// Whether a slot in this state is open, held or parked.
+pub(crate) fn is_live(state: SlotState) -> bool
+    ensures { result ≡ is_live state }
+{
+    is_open(state) || is_parked(state)
+}
+
 // Whether a slot is open or held.
 fn has_open(slots: &[StoredSlot]) -> bool
     ensures { result ≡ list_any (λ s. is_fresh s.state || is_back s.state || is_held s.state) slots.now }
@@ -47,22 +54,22 @@ fn first_parked(slots: &[StoredSlot]) -> Option<usize>
     slots.iter().position(|slot| is_parked(slot.state))
 }
 
-// What is told of the least bound of the live slots, with one slot more before them.
+// What is told of the least that is known of the live slots, with one slot more before them.
 fn less(slot: StoredSlot, told: Option<u64>) -> Option<u64>
-    ensures { (slots : List Stored) → told ≡ least_told (live_bounds slots) → result ≡ least_told (live_bounds (slot ∷ slots)) }
+    ensures { (slots : List Stored) → told ≡ least_told (live_lows slots) → result ≡ least_told (live_lows (slot ∷ slots)) }
 {
-    if !is_open(slot.state) && !is_parked(slot.state) {
+    if !is_live(slot.state) {
         return told;
     }
     match told {
-        Some(other) => Some(slot.bound.min(other)),
-        None => Some(slot.bound),
+        Some(other) => Some(slot.low().min(other)),
+        None => Some(slot.low()),
     }
 }
 
-// The least bound of the open, held and parked slots; 0 where there is none.
+// The least that is known of the open, held and parked slots; 0 where there is none.
 fn low(slots: &[StoredSlot]) -> u64
-    ensures { result ≡ least_number (live_bounds slots.now) }
+    ensures { result ≡ least_number (live_lows slots.now) }
 {
     let mut told = None;
     let mut id = slots.len();
@@ -74,11 +81,11 @@ fn low(slots: &[StoredSlot]) -> u64
 }
 
 impl Book {
-    // The least bound of the open, held and parked slots.
+    // The least that is known of the open, held and parked slots, and less than the best cost.
     fn low(&self) -> u64
         ensures { result ≡ low_of self.now }
     {
-        low(&self.slots)
+        low(&self.slots).min(self.best_cost().saturating_sub(1))
     }
 
     // Whether a slot is open or held.
@@ -119,8 +126,10 @@ impl Book {
     }
 
     /// `OpenNodes` exactly where a slot is open or held; else `OpenTurns` with the named group of the
-    /// parked slot of the smallest number exactly where one is parked; else `Optimal`. `low` is the
-    /// least bound of the open, held and parked slots, in minutes. Takes no memory.
+    /// parked slot of the smallest number exactly where one is parked; else `Optimal`. `low`, in
+    /// minutes, is the least over the open, held and parked slots of the greater of the slot's bound
+    /// and what was shown of it, and at most the best cost less one: while such a slot is left, the
+    /// best plan isn't proved cheapest. Takes no memory.
     pub fn verdict(&self) -> Verdict
         ensures { result ≡ verdict_of self.now }
     {

@@ -2,6 +2,7 @@
 mod asking;
 mod memory;
 mod parking;
+mod showing;
 mod sweeping;
 
 use crate::fixture::{NARROW, SIDE, narrow, open, side_by_side};

@@ -63,13 +63,18 @@ impl PricedRoot {
 
     /// That it reaches the cost of its best plan.
     pub(crate) fn shown(&self, alloc: Global) -> Result<Shown<'_>, Fail> {
+        self.shown_at(alloc, 120)
+    }
+
+    /// That it reaches this cost.
+    pub(crate) fn shown_at(&self, alloc: Global, cost: u64) -> Result<Shown<'_>, Fail> {
         let asked = PricedNode {
             instance: &self.instance,
             node: &self.node,
             prices: &self.prices,
             cuts: self.cuts.as_slice(),
         };
-        Ok(show(&mut KeptLines::new(alloc), &asked, 120, LIMITS)?.ok_or("not shown")?)
+        Ok(show(&mut KeptLines::new(alloc), &asked, cost, LIMITS)?.ok_or("not shown")?)
     }
 
     /// That its cut leaves no uncut plan below this cost.

@@ -26,6 +26,9 @@ pub(crate) enum Ask {
     /// The slot is closed by the prices of this number and this cost, which is swept in the narrow
     /// chamber by the cut of both ships.
     CloseSwept(u32, u64, u64),
+    /// The cost is shown of the slot by the prices of this number: the root of the narrow chamber
+    /// reaches it by the cut of both ships.
+    ShowLow(u32, u64, u64),
     /// The plan of both ships side by side.
     Both,
     /// The plan of one ship from minute 0, and the other from this minute.
@@ -49,6 +52,10 @@ pub(crate) fn reply_of(alloc: Global, book: &mut Book, ask: Ask) -> Result<Reply
             let root = PricedRoot::new(alloc)?;
             book.close_swept(id, number, &root.swept(alloc, cost)?)
         }
+        Ask::ShowLow(id, number, cost) => {
+            let root = PricedRoot::new(alloc)?;
+            book.show_low(id, number, &root.shown_at(alloc, cost)?)
+        }
         Ask::Both => book.replace(both()),
         Ask::After(start) => book.replace(one_after_the_other(start)),
     })
@@ -60,6 +67,7 @@ fn accepted_text(alloc: Global, reply: &Reply) -> Result<String, Fail> {
         Reply::Node(id, node) => format!(in alloc; "Node({id}, {})", node.depth())?,
         Reply::Made(count) => format!(in alloc; "Made({count})")?,
         Reply::Closed => format!(in alloc; "Closed")?,
+        Reply::LowShown => format!(in alloc; "LowShown")?,
         Reply::Posted(number) => format!(in alloc; "Posted({number})")?,
         Reply::Priced(number) => format!(in alloc; "Priced({number})")?,
         Reply::Parked => format!(in alloc; "Parked")?,
@@ -85,8 +93,10 @@ fn refusal_text(alloc: Global, why: &Refusal) -> Result<String, Fail> {
         Refusal::NotCheaper(cost, best) => format!(in alloc; "NotCheaper({cost}, {best})")?,
         Refusal::Absent(ship) => format!(in alloc; "Absent({ship})")?,
         Refusal::NoPrices(number) => format!(in alloc; "NoPrices({number})")?,
+        Refusal::NotShown => format!(in alloc; "NotShown")?,
         Refusal::NotRoot => format!(in alloc; "NotRoot")?,
         Refusal::NotSwept => format!(in alloc; "NotSwept")?,
+        Refusal::Lower(cost, known) => format!(in alloc; "Lower({cost}, {known})")?,
         _ => format!(in alloc; "another")?,
     })
 }

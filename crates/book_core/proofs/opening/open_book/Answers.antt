@@ -1,8 +1,9 @@
-use Rattle.std.proofs.Common.{◌≡◌, [], ◌∷◌, ◌++◌, length, refl, sym, ap, ◌∙◌, subst, arith, nat_le, replicate, false, None}
+use Rattle.std.proofs.Common.{◌≡◌, [], ◌∷◌, ◌++◌, length, count_by, refl, sym, ap, ◌∙◌, subst, arith, nat_le, replicate, false, None}
 use Rattle.lock_model.specs.declared.limits.TheConstants.{WORKERS_AND_DRIVER}
 use Rattle.lock_rules.specs.Plan.{cost_of}
 use Rattle.lock_rules.specs.Throughput.{throughput_of}
 use Rattle.book_rules.specs.Book.{Case, bound_at, opening_book, new_slot}
+use Rattle.book_rules.specs.History.{is_show_low}
 use Rattle.lock_rules.specs.Node.{root}
 use Rattle.flow_bounds.specs.Roster.{IsRosterOf}
 use Rattle.book_core.specs.Case.{IsCase}
@@ -64,5 +65,6 @@ invariant_of-result c =
         opening_is = cost_is ∙ (λ i. cost_of (sym c.copy.ensures i).instance (sym c.copy-2.ensures i));
         throughput_is = c.throughput.ensures.value ∙ ap (λ (k : Case). throughput_of k.instance) (c.case.view_is ∙ sym c.copy.ensures);
       };
+      lows = record { count = sym (ap (count_by is_show_low) c.in_ok-history.ensures.items) };
       room = record { enough = omega (arith, c.in_ok-history.ensures.exact, ap length c.new.ensures, ap length c.new-2.ensures.items, ap length c.new-3.ensures.items, ap (λ (k : Case). k.nodes) c.case.view_is, ap (λ (k : Case). k.nodes) c.copy.ensures) };
     }

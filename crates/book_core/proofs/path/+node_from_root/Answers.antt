@@ -1,4 +1,4 @@
-use Rattle.std.proofs.Common.{sym, subst, arith}
+use Rattle.std.proofs.Common.{sym, subst, arith, None}
 use Rattle.book_rules.specs.declared.book.SlotState.TheVariants as slot
 use Rattle.book_core.specs.declared.stored_slot.StoredSlot.{StoredSlot}
 use Rattle.book_core.specs.Stored.{slots_of}
@@ -14,12 +14,12 @@ returns-then-id-eq0 t c =
 
 pub node_from_root-node-requires : goal.node_from_root-node-requires
 node_from_root-node-requires t c =
-    let d : StoredSlot = record { bound = 0; state = slot.Fresh; parent = 0; number = 0 } in
+    let d : StoredSlot = record { bound = 0; shown = None; state = slot.Fresh; parent = 0; number = 0 } in
     let before = up-before c.args.instance.now c.args.slots.now c.requires.tree c.args.id (omega arith) c.requires.known d in
     (omega (arith, before, c.decreases), (c.requires.tree, (c.requires.roster, omega (arith, before, c.requires.known))))
 
 pub step-requires-clause-from : goal.step-requires-clause-from
 step-requires-clause-from t c =
     let I = c.args.instance.now in
-    let d : StoredSlot = record { bound = 0; state = slot.Fresh; parent = 0; number = 0 } in
+    let d : StoredSlot = record { bound = 0; shown = None; state = slot.Fresh; parent = 0; number = 0 } in
     subst (λ k. IsNodeIn I (slots_of I c.args.slots.now) k c.node_from_root-node.result) (sym (stored-as I c.args.slots.now c.requires.tree c.args.id (omega arith) c.requires.known d).parent) c.node_from_root-node.ensures

@@ -1,10 +1,12 @@
-use Rattle.std.proofs.Common.{◌≡◌, sym, ap, ◌∙◌, subst, arith, slice_index_or, slice_set, true, false}
+use Rattle.std.proofs.Common.{◌≡◌, sym, ap, ◌∙◌, subst, arith, slice_index_or, slice_set, true, false, refl}
+use Rattle.book_rules.specs.declared.book.Entry.TheVariants as entry
 use Rattle.book_rules.specs.Book.{Book}
 use Rattle.book_core.specs.Stored.{slots_of}
 use Rattle.book_core.specs.Changes.{finished}
 use Rattle.book_core.specs.Hands.{ids_of}
 use Rattle.book_core.specs.Keeps.{IsSound}
 use Rattle.book_core.specs.Seen.{seen}
+use Rattle.book_core.proofs.KeepingLemmas.{lows-kept}
 use Rattle.book_core.proofs.HandOverLemmas.{tables-ended}
 use Rattle.book_core.proofs.book.Book.end.Goals as goal
 
@@ -22,5 +24,6 @@ invariant_of-self c =
       path = old.path;
       roster_is = old.roster_is;
       costs = record { best_is = old.costs.best_is; opening_is = old.costs.opening_is; throughput_is = old.costs.throughput_is };
+      lows = lows-kept a.history.items a.shown_lows (entry.Release c.args.worker) c.push_reserved.new.self.items old.lows refl c.push_reserved.ensures.items;
       room = record { enough = omega (arith, old.room.enough, c.push_reserved.ensures.capacity) };
     }

@@ -1,4 +1,5 @@
-use Rattle.std.proofs.Common.{length, sym, ap, ◌∙◌, subst, arith, slice_set, Some, None}
+use Rattle.std.proofs.Common.{length, sym, ap, ◌∙◌, subst, arith, slice_set, Some, None, refl}
+use Rattle.book_rules.specs.declared.book.Entry.TheVariants as entry
 use Rattle.book_rules.specs.Book.{Case, first_slot, is_held_by}
 use Rattle.book_rules.specs.declared.book.SlotState.TheVariants as slot
 use Rattle.book_core.specs.Stored.{slots_of}
@@ -9,6 +10,7 @@ use Rattle.std.specs.declared.option.Option.{Option}
 use Rattle.book_core.specs.declared.hand.Hand.{Hand}
 use Rattle.book_core.specs.Hands.{ids_of, IsHand, IsNodeIn}
 use Rattle.book_core.specs.Tables.{state_in}
+use Rattle.book_core.proofs.KeepingLemmas.{lows-kept}
 use Rattle.book_core.proofs.HeldLemmas.{ids-set, changed-nodes, node-kept, nodes-set, nodes-kept}
 use Rattle.book_core.proofs.SettleLemmas.{restated, slots-known, state-is, restated-changes}
 use Rattle.book_core.proofs.PathLemmas.{path-kept, path-in, path-out, last-in, tree-of, tree-in}
@@ -85,5 +87,6 @@ invariant_of-self c =
       path = path-kept I (seen a).slots new keeps path leads;
       roster_is = old.roster_is;
       costs = record { best_is = old.costs.best_is; opening_is = old.costs.opening_is; throughput_is = old.costs.throughput_is };
+      lows = lows-kept a.history.items a.shown_lows (entry.Take c.args.worker) c.push_reserved.new.self.items old.lows refl c.push_reserved.ensures.items;
       room = record { enough = omega (arith, old.room.enough, c.push_reserved.ensures.capacity) };
     }

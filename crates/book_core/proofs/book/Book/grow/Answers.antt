@@ -1,5 +1,6 @@
 use Rattle.std.proofs.Common.{◌≡◌, ◌+◌, ◌++◌, length, refl, sym, ap, ◌∙◌, subst, arith, slice_set, None}
 use Rattle.std.specs.Prelude.{IfSome}
+use Rattle.book_rules.specs.declared.book.Entry.TheVariants as entry
 use Rattle.book_rules.specs.declared.book.SlotState.TheVariants as slot
 use Rattle.book_rules.specs.Book.{Book, Case, slot_at, is_held}
 use Rattle.book_core.specs.Changes.{let_go}
@@ -9,6 +10,7 @@ use Rattle.book_core.specs.Keeps.{IsSound, AreTables}
 use Rattle.book_core.specs.Path.{IsPath}
 use Rattle.book_core.specs.Seen.{seen}
 use Rattle.book_core.specs.Stored.{slots_of}
+use Rattle.book_core.proofs.KeepingLemmas.{lows-kept}
 use Rattle.book_core.proofs.BoundingLemmas.{bounding, tables-filled, hands-filled, bounds-here, hands-left}
 use Rattle.book_core.proofs.HeldLemmas.{ids-set}
 use Rattle.book_core.proofs.KeptLemmas.{length-slots}
@@ -40,6 +42,7 @@ invariant_of-self c =
       path = subst (λ l. IsPath I (slots_of I l) a.path) slots old.path;
       roster_is = old.roster_is;
       costs = record { best_is = old.costs.best_is; opening_is = old.costs.opening_is; throughput_is = old.costs.throughput_is };
+      lows = old.lows;
       room = old.room;
     }
 
@@ -120,5 +123,6 @@ invariant_of-self-2 c =
           c.push_held.new.slots.items slots;
       roster_is = old.roster_is;
       costs = record { best_is = old.costs.best_is; opening_is = old.costs.opening_is; throughput_is = old.costs.throughput_is };
+      lows = lows-kept a.history.items a.shown_lows (entry.Split id) c.push_reserved-2.new.self.items old.lows refl c.push_reserved-2.ensures.items;
       room = record { enough = omega (arith, old.room.enough, c.push_reserved-2.ensures.capacity) };
     }

@@ -30,6 +30,7 @@ invariant_of-self c =
       path = old.path;
       roster_is = old.roster_is;
       costs = old.costs;
+      lows = old.lows;
       room = old.room;
     }
 

@@ -1,4 +1,5 @@
-use Rattle.std.proofs.Common.{sym, ap, ◌∙◌, subst, arith, slice_index_or, slice_set, None, true, false}
+use Rattle.std.proofs.Common.{sym, ap, ◌∙◌, subst, arith, slice_index_or, slice_set, None, true, false, refl}
+use Rattle.book_rules.specs.declared.book.Entry.TheVariants as entry
 use Rattle.book_rules.specs.Book.{Book, first_slot, is_held_by}
 use Rattle.book_rules.specs.declared.book.SlotState.TheVariants as slot
 use Rattle.book_core.specs.Stored.{slots_of}
@@ -6,6 +7,7 @@ use Rattle.book_core.specs.Keeps.{IsSound, AreTables}
 use Rattle.book_core.specs.Seen.{seen}
 use Rattle.lock_rules.specs.Children.{insert_number}
 use Rattle.book_core.specs.Hands.{ids_of}
+use Rattle.book_core.proofs.KeepingLemmas.{lows-kept}
 use Rattle.book_core.proofs.HeldLemmas.{ids-set, changed-nodes, nodes-set, nodes-kept}
 use Rattle.book_core.proofs.PathLemmas.{path-kept}
 use Rattle.book_core.proofs.SettleLemmas.{restated, slots-known, restated-changes}
@@ -54,5 +56,6 @@ invariant_of-self c =
       path = path-kept I (seen a).slots new keeps a.path old.path;
       roster_is = old.roster_is;
       costs = record { best_is = old.costs.best_is; opening_is = old.costs.opening_is; throughput_is = old.costs.throughput_is };
+      lows = lows-kept a.history.items a.shown_lows (entry.Release c.args.worker) c.push_reserved.new.self.items old.lows refl c.push_reserved.ensures.items;
       room = record { enough = omega (arith, old.room.enough, c.push_reserved.ensures.capacity) };
     }

@@ -1,10 +1,12 @@
-use Rattle.std.proofs.Common.{◌≡◌, [], ◌∷◌, ◌++◌, length, map, filter, take, drop, sym, ap, ◌∙◌, subst, arith}
+use Rattle.std.proofs.Common.{◌≡◌, [], ◌∷◌, ◌++◌, length, map, filter, take, drop, count_by, sym, ap, ◌∙◌, subst, arith, refl}
 use Rattle.std.proofs.lemmas.List.{length-map}
 use Rattle.list_laws.proofs.Lists.{length-push}
 use Rattle.book_rules.specs.Book.{Book}
+use Rattle.book_rules.specs.History.{is_show_low}
 use Rattle.book_rules.specs.declared.book.Entry.TheVariants as entry
 use Rattle.book_core.specs.Keeps.{IsSound}
 use Rattle.book_core.specs.Outdone.{outdone_stored, is_back_in}
+use Rattle.book_core.proofs.KeepingLemmas.{lows-kept}
 use Rattle.book_core.proofs.OutdoneLemmas.{refill, cost-here, replaced-is, replaced-tables, replaced-nodes, replaced-path}
 use Rattle.book_core.proofs.book.Book.put_plan.Goals as goal
 
@@ -41,10 +43,13 @@ invariant_of-self-2 c =
       path = replaced-path a b c.self.view_is c.args.cost c.args.plan c.requires.cost ss all old.path;
       roster_is = old.roster_is;
       costs = record { best_is = cost-here a b c.self.view_is c.args.cost c.args.plan c.requires.cost ss all; opening_is = old.costs.opening_is; throughput_is = old.costs.throughput_is };
+      lows = lows-kept a.history.items a.shown_lows entry.Replace c.push_reserved-2.new.self.items old.lows refl history;
       room = record {
         enough = omega (
           arith,
-          c.in_ok-needed.ensures.count,
+          c.in_ok-needed.ensures.count.count,
+          old.lows.count,
+          ap (λ (u : Book). count_by is_show_low u.history) c.self.view_is,
           c.in_ok-make_room.ensures.entries,
           c.push_reserved-2.ensures.capacity,
           ap (λ (u : Book). u.case.nodes) c.self.view_is,

@@ -3,6 +3,7 @@ use Rattle.book_core.specs.Keeps.{IsSound, AreTables}
 use Rattle.book_core.specs.Stored.{slots_of}
 use Rattle.book_core.specs.Changes.{let_go}
 use Rattle.book_core.specs.Hands.{ids_of, AreNodes}
+use Rattle.book_core.proofs.KeepingLemmas.{lows-kept}
 use Rattle.book_core.proofs.HeldLemmas.{ids-let_go, changed-nodes, nodes-let_go, nodes-kept}
 use Rattle.book_core.proofs.PathLemmas.{path-kept}
 use Rattle.book_core.proofs.SettleLemmas.{restated, restated-is, restated-changes, state-is, settled-known, holder-known, settled-tables}
@@ -44,5 +45,6 @@ invariant_of-self c =
       costs = record { best_is = old.costs.best_is; opening_is = old.costs.opening_is; throughput_is = old.costs.throughput_is };
       nodes = subst (AreNodes I new) (sym c.let_go.ensures) (nodes-kept I (slots_of I a.slots.items) new keeps (let_go c.index.result.now.state a.hands) empty);
       path = path-kept I (slots_of I a.slots.items) new keeps a.path old.path;
+      lows = lows-kept a.history.items a.shown_lows c.args.entry c.push_reserved.new.self.items old.lows c.requires.other c.push_reserved.ensures.items;
       room = record { enough = omega (arith, old.room.enough, c.push_reserved.ensures.capacity) };
     }

@@ -1,4 +1,4 @@
-use Rattle.std.proofs.Common.{sym, subst, arith}
+use Rattle.std.proofs.Common.{sym, subst, arith, None}
 use Rattle.book_rules.specs.declared.book.SlotState.TheVariants as slot
 use Rattle.book_core.specs.declared.stored_slot.StoredSlot.{StoredSlot}
 use Rattle.book_core.specs.Stored.{slots_of}
@@ -21,7 +21,7 @@ returns-then-id-eq0-clause-path t c =
 pub lead_to-requires : goal.lead_to-requires
 lead_to-requires t c =
     let I = c.args.instance.now in
-    let d : StoredSlot = record { bound = 0; state = slot.Fresh; parent = 0; number = 0 } in
+    let d : StoredSlot = record { bound = 0; shown = None; state = slot.Fresh; parent = 0; number = 0 } in
     let before = up-before I c.args.slots.now c.requires.tree c.args.id (omega arith) c.requires.known d in (
       omega (arith, before, c.decreases),
       (
@@ -38,5 +38,5 @@ lead_to-requires t c =
 
 pub go_on-requires-clause-from : goal.go_on-requires-clause-from
 go_on-requires-clause-from t c =
-    let d : StoredSlot = record { bound = 0; state = slot.Fresh; parent = 0; number = 0 } in
+    let d : StoredSlot = record { bound = 0; shown = None; state = slot.Fresh; parent = 0; number = 0 } in
     subst (λ k. EndsAt k c.lead_to.new.self.nodes.items) (sym (stored-as c.args.instance.now c.args.slots.now c.requires.tree c.args.id (omega arith) c.requires.known d).parent) c.lead_to.ensures.ends
