@@ -1,5 +1,5 @@
 -- The events that close a slot.
-use Rattle.std.proofs.Common.{◌≡◌, ℕ, ◌<◌, ◌≤◌, refl, sym, ap, ◌∙◌, subst, arith, Bool, true, false, not, cond, Some, None, slice_get, le-ltb, lt-ltb}
+use Rattle.std.proofs.Common.{◌≡◌, ℕ, ◌<◌, ◌≤◌, refl, sym, ap, ◌∙◌, subst, Bool, true, false, not, cond, Some, None, slice_get, le-ltb, lt-ltb}
 use Rattle.std.proofs.lemmas.Bool.{not_from_false, not_from_true}
 use Rattle.std.specs.declared.option.Option.{Option}
 use Rattle.mooring_rules.specs.declared.breaks.BrokenPlan.{BrokenPlan}

@@ -23,7 +23,7 @@ use Rattle.book_core.specs.declared.reply.Reply.TheVariants as reply
 use Rattle.book_core.specs.declared.reply.Refusal.TheVariants as refusing
 use Rattle.book_core.specs.declared.stored_slot.StoredSlot.{StoredSlot}
 use Rattle.book_core.specs.declared.waiting.Waiting.{Waiting}
-use Rattle.book_core.specs.Stored.{node_after, slots_after, slots_of}
+use Rattle.book_core.specs.Stored.{node_after, slot_with, slots_after, slots_of}
 use Rattle.book_core.specs.Tables.{state_in, AreHands, AreBack}
 use Rattle.book_core.specs.Changes.{slot_in, set_state, Changes, let_go}
 use Rattle.book_core.specs.Growing.{stored_child, stored_children, with_kids}
@@ -64,11 +64,10 @@ kids-slots I cost id node (l ∷ ls) before n done count all known is =
     let lines : slice_index_or (children_of I node.depth node.lines) n root_lines ≡ l = (λ i. slice_index_or (all i) (count i) root_lines) ∙ at-middle before l ls root_lines in
     let here : node_after I done s ≡ own =
     after-some I done s (omega (arith, known)) ∙ ap (λ m. child_node I m n) is ∙ ap (λ x. record { depth = suc node.depth; lines = x }) lines in
-    let kid : Node → Slot = λ m. record { parent = id; number = n; node = m; bound = bound_of I (suc node.depth) l; state = cond (nat_le cost (bound_of I (suc node.depth) l)) (slot.Closed by.Bound) slot.Fresh } in
     let long = length-append done (node_after I done s ∷ []) in
     let rest = kids-slots I cost id node ls (before ++ l ∷ []) (suc n) (done ++ node_after I done s ∷ []) (omega (arith, count, length-append before (l ∷ []))) (all ∙ sym (append_assoc before (l ∷ []) ls))
     (omega (arith, known, long)) (get_or-append done (node_after I done s ∷ []) root id known ∙ is) in
-    (λ i. kid (here i) ∷ rest i)
+    (λ i. slot_with s (here i) ∷ rest i)
 
 -- ---- the slots of a book that is split
 

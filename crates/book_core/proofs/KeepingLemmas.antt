@@ -1,15 +1,14 @@
 -- What is shown of a slot changes, and nothing else of the slots; the entries of costs that were shown.
-use Rattle.std.proofs.Common.{◌≡◌, ℕ, zero, suc, ◌+◌, ◌<◌, ◌≤◌, List, [], ◌∷◌, ◌++◌, length, refl, sym, ap, ◌∙◌, subst, arith, Bool, true, false, cond, count_by, slice_index_or, slice_set, inl, inr, Some, None}
+use Rattle.std.proofs.Common.{◌≡◌, ℕ, zero, suc, ◌+◌, ◌<◌, List, [], ◌∷◌, ◌++◌, length, refl, sym, ap, ◌∙◌, subst, arith, Bool, false, cond, count_by, slice_index_or, slice_set, inl, inr, Some, None}
 use Rattle.std.specs.declared.option.Option.{Option}
 use Rattle.std.proofs.lemmas.Bool.Decides.{eqb_tells}
 use Rattle.std.proofs.lemmas.List.{length-set, get_or-set_same, get_or-set_other}
-use Rattle.std.proofs.lemmas.List.Sums.{sum_by-append}
+use Rattle.std.proofs.lemmas.List.Sums.{sum_by-append, count_by_more_no}
 use Rattle.lock_model.specs.declared.instance.Instance.{Instance}
 use Rattle.lock_rules.specs.Node.{Node}
 use Rattle.book_rules.specs.declared.book.Entry.{Entry}
 use Rattle.book_rules.specs.declared.book.Entry.TheVariants as entry
 use Rattle.book_rules.specs.declared.book.ShownLow.{ShownLow}
-use Rattle.book_rules.specs.declared.book.SlotState.TheVariants as slot
 use Rattle.book_rules.specs.Book.{Book, Slot, no_slot}
 use Rattle.book_rules.specs.History.{is_show_low}
 use Rattle.book_rules.specs.Step.{low_shown}
@@ -17,7 +16,6 @@ use Rattle.book_core.specs.declared.book.Book.TheInside.{Inside}
 use Rattle.book_core.specs.declared.stored_slot.StoredSlot.{StoredSlot}
 use Rattle.book_core.specs.declared.waiting.Waiting.{Waiting}
 use Rattle.book_core.specs.Changes.{slot_in}
-use Rattle.book_core.specs.Hands.{ids_of}
 use Rattle.book_core.specs.Keeps.{AreTables, CountsLows}
 use Rattle.book_core.specs.Seen.{seen}
 use Rattle.book_core.specs.Stored.{node_after, slot_with, slots_after, slots_of}
@@ -34,7 +32,7 @@ one-added es e new more = ap (count_by is_show_low) more ∙ sum_by-append (λ x
 -- another entry
 pub lows-kept : (es : List Entry) (n : ℕ) (e : Entry) (new : List Entry) → CountsLows es n → is_show_low e ≡ false → new ≡ es ++ e ∷ [] → CountsLows new n
 lows-kept es n e new old other more =
-    let one : count_by is_show_low (e ∷ []) ≡ 0 = ap (λ t. cond t 1 0) other in
+    let one : count_by is_show_low (e ∷ []) ≡ 0 = count_by_more_no is_show_low (e ∷ []) 0 e (omega arith) other in
     record { count = omega (arith, old.count, one-added es e new more, one) }
 
 -- one more cost

@@ -1,5 +1,5 @@
 -- A cost that was shown of a slot is kept.
-use Rattle.std.proofs.Common.{◌≡◌, ℕ, ◌<◌, ◌≤◌, List, refl, sym, ap, ◌∙◌, subst, Bool, true, false, not, cond, slice_get, nat_le, Some, None}
+use Rattle.std.proofs.Common.{◌≡◌, ℕ, ◌<◌, List, refl, sym, ap, ◌∙◌, subst, Bool, true, false, not, cond, slice_get, nat_le, Some, None}
 use Rattle.std.proofs.lemmas.Bool.{le-leb, lt-leb, not_from_false, not_from_true}
 use Rattle.std.specs.declared.option.Option.{Option}
 use Rattle.mooring_rules.specs.declared.breaks.BrokenPlan.{BrokenPlan}
