@@ -115,7 +115,7 @@ probed ships s few known = elim (leb_tells (suc FEW_SHIPS) (length ships)) [
 
 -- ---- marks
 
-less-trans : (k m n : ℕ) → k < m → m < n → k < n
+pub less-trans : (k m n : ℕ) → k < m → m < n → k < n
 less-trans k m n low high = omega (arith, low, high)
 
 module _ (b : Book) (states : KeepsStates b) (few_prices : length b.prices < 2 ^ 63) (few : length b.cuts < 2 ^ 63) where

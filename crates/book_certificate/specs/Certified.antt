@@ -1,5 +1,6 @@
 -- What the certificate of a book is, and its low; which books have one that leaves no node open.
 use Rattle.std.specs.Prelude.{ℕ, ◌≡◌, ◌<◌, ◌≤◌, true, false, length, map, min}
+use Rattle.lock_model.specs.declared.instance.Instance.{Instance}
 use Rattle.lock_model.specs.declared.verdict.Verdict.{Verdict}
 use Rattle.lock_model.specs.declared.verdict.Verdict.TheVariants as verdict
 use Rattle.book_rules.specs.declared.book.SlotState.TheVariants as slot
@@ -8,7 +9,7 @@ use Rattle.book_rules.specs.Book.{Book, slot_at, best_cost, is_live}
 use Rattle.book_rules.specs.Verdict.{verdict_of}
 use Rattle.closing_rules.specs.ProvedCuts.{CertCut}
 use Rattle.certificate_rules.specs.Certificates.{Certificate}
-use Rattle.certificate_rules.specs.Low.{IsLow}
+use Rattle.certificate_rules.specs.Low.{IsTreeShowing}
 use Rattle.book_certificate.specs.Preorder.{mark_at, slots_in_order}
 
 -- slot `id` is open, held or parked
@@ -43,11 +44,14 @@ certified_low cost verdict.Optimal = cost
 certified_low cost (verdict.OpenNodes used low) = min low cost
 certified_low cost (verdict.OpenTurns chamber ships turns low) = min low cost
 
--- its low is at least that of the verdict: leaves by prices have the greatest cost that these show
-pub record ProvesVerdict (b : Book) (C : Certificate) : Type 0 where
-  pub low : ℕ
-  pub is : IsLow b.case.instance C low
-  pub high : certified_low (best_cost b) (verdict_of b) ≤ low
+-- The certificate shows this number: it is no more than its cost, and each open leaf shows it, so the low of the certificate is no less.
+pub record ProvesLow (I : Instance) (C : Certificate) (low : ℕ) : Type 0 where
+  pub most : low ≤ C.cost
+  pub shown : IsTreeShowing I C low
+
+-- it shows the best cost, or a low of the verdict that is less
+abbrev pub ProvesVerdict : Book → Certificate → Type 0
+ProvesVerdict b C = ProvesLow b.case.instance C (certified_low (best_cost b) (verdict_of b))
 
 -- Where a slot is Fresh, there are more marks than the book has used nodes.
 pub record HasMoreMarks (b : Book) (C : Certificate) : Type 0 where

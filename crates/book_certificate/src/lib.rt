@@ -3,9 +3,9 @@
 //!
 //! `open_certificate_of` gives the certificate of a book at any time: the best plan, its cost, the cuts
 //! and the prices in order, and one mark for each slot in preorder of the tree that the slots make,
-//! though they were filled in another order; a slot that is open, held or parked is an open leaf. It
-//! stands and is well formed, so the checker never rejects it, and its low is what the book's verdict
-//! says. `certificate_of` gives that of a finished book, which is accepted. `StillOpen` comes exactly
+//! though they were filled in another order; a slot that is open, held or parked is an open leaf, by
+//! prices where these showed a cost of it. It stands and is well formed, so the checker never rejects
+//! it, and its low is no less than what the book's verdict says. `certificate_of` gives that of a finished book, which is accepted. `StillOpen` comes exactly
 //! where a slot is open, held or parked; else want of memory is the only refusal.
 //!
 //! Definitions: `specs/Preorder` says which marks the slots have, and `Certified` what the certificate

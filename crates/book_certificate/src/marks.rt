@@ -4,23 +4,33 @@ ghost use Rattle.book_rules.specs.declared.book.SlotState.TheVariants as slot;
 ghost use Rattle.book_rules.specs.Book.{slot_at};
 ghost use Rattle.book_rules.specs.Family.{child_count};
 ghost use Rattle.book_rules.specs.NextSlot.{is_split};
-ghost use Rattle.book_certificate.specs.Preorder.{mark_of, mark_at, slots_in_order};
+ghost use Rattle.book_certificate.specs.Preorder.{open_mark, mark_of, mark_at, slots_in_order};
 ghost use Rattle.book_certificate.specs.Writing.{AppendsMarks};
 
 use book_core::Book;
-use book_rules::SlotState;
+use book_rules::{ShownLow, SlotState};
 use certificate_parts::{Mark, MarkList};
 use no_memory::NoMemory;
 use std::alloc::Global;
 
-// The mark of a slot, by its state: an open leaf where it is open, held or parked.
-fn mark_of(state: SlotState) -> Mark
-    ensures { result ≡ mark_of state }
+// An open leaf, by the prices by which a cost was shown of its node.
+fn open_mark(shown: Option<ShownLow>) -> Mark
+    ensures { result ≡ open_mark shown }
+{
+    match shown {
+        Some(low) => Mark::OpenPriced(low.prices),
+        None => Mark::Open,
+    }
+}
+
+// The mark of a slot, by its state and what is shown of it: an open leaf where it is open, held or parked.
+fn mark_of(shown: Option<ShownLow>, state: SlotState) -> Mark
+    ensures { result ≡ mark_of shown state }
 {
     match state {
         SlotState::Split(_) => Mark::Split,
         SlotState::Closed(why) => Mark::Leaf(why),
-        _ => Mark::Open,
+        _ => open_mark(shown),
     }
 }
 
@@ -30,7 +40,7 @@ fn mark_at(book: &Book, id: u32) -> Mark
     ensures { result ≡ mark_at book.now id }
 {
     match book.slot_state(id) {
-        Some(state) => mark_of(state),
+        Some(state) => mark_of(book.shown_low(id), state),
         None => unreachable!(),
     }
 }

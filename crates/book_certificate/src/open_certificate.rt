@@ -1,11 +1,8 @@
 //! The certificate of a book at any time.
 ghost use Rattle.std.specs.Prelude.{◌≤◌, length, IfOk};
-ghost use Rattle.book_rules.specs.Book.{best_cost};
-ghost use Rattle.book_rules.specs.Verdict.{verdict_of};
 ghost use Rattle.certificate_rules.specs.Certificates.{Stands};
-ghost use Rattle.certificate_rules.specs.Low.{IsLow};
 ghost use Rattle.certificate_rules.specs.WellFormed.{IsWellFormed};
-ghost use Rattle.book_certificate.specs.Certified.{IsCertificateOf, certified_low, HasMoreMarks};
+ghost use Rattle.book_certificate.specs.Certified.{IsCertificateOf, ProvesVerdict, HasMoreMarks};
 
 use crate::cuts::cuts_of;
 use crate::marks::marks_of;
@@ -16,12 +13,12 @@ use no_memory::NoMemory;
 use std::alloc::Global;
 
 /// The open certificate of a book: its best plan, the plan's cost in minutes, its cuts and its prices
-/// in order, and the marks of its slots in preorder of their tree, where slots that are open, held or parked become
-/// open leaves. It is well formed, and it stands for the instance of the book, so the checker never
+/// in order, and the marks of its slots in preorder of their tree, where slots that are open, held or
+/// parked become open leaves, by the prices by which a cost was shown of them. It is well formed, and it stands for the instance of the book, so the checker never
 /// rejects it.
 ///
 /// Its low is the best cost where the book's verdict is `Optimal`, and else at least the verdict's
-/// low. It has at least as many marks as the book has slots, and where a slot is
+/// low: it may be more, since prices show of a leaf what they can. It has at least as many marks as the book has slots, and where a slot is
 /// Fresh, more marks than the book has used nodes. Refuses want of memory alone.
 pub fn open_certificate_of(alloc: Global, book: &Book) -> Result<Certificate, NoMemory>
     ensures certified { IfOk result (IsCertificateOf book.now) }

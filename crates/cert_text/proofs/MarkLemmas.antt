@@ -2,13 +2,13 @@
 use Rattle.std.proofs.Common.{◌≡◌, ◌∙◌, ◌+◌, ◌-◌, ◌<◌, ◌^◌, ◌++◌, ℕ, Bool, true, false, cond, List, [], ◌∷◌, Option, Some, None, refl, ap, subst, arith, option_map, ◌⊎◌, inl, inr, All}
 use Rattle.std.proofs.lemmas.List.Elements.{All-head, All-tail, All-cons, All-nil}
 use Rattle.std.proofs.lemmas.Option.{none-some, same_Some}
-use Rattle.std.specs.Prelude.{◌==◌, not, ⊤}
+use Rattle.std.specs.Prelude.{◌==◌, ◌&&◌, not, ⊤}
 use Rattle.std.proofs.lemmas.Bool.Decides.{nat_tests}
 use Rattle.std.proofs.lemmas.Bool.{lt-ltb}
 use Rattle.lock_model.specs.Limits.{is_between}
 use Rattle.closing_rules.specs.declared.grounds.Ground.TheVariants.{Bound, Throughput, Probe, Cut, Price, Swept}
 use Rattle.certificate_rules.specs.declared.certificate.Mark.{Mark}
-use Rattle.certificate_rules.specs.declared.certificate.Mark.TheVariants.{Split, Leaf, Open}
+use Rattle.certificate_rules.specs.declared.certificate.Mark.TheVariants.{Split, Leaf, Open, OpenPriced}
 use Rattle.certificate_rules.specs.Certificates.{IsNoOpenLeaf, HasNoOpenLeaf}
 use Rattle.certificate_rules.specs.declared.numbering.Numbering.{Numbering}
 use Rattle.certificate_rules.specs.declared.numbering.Numbering.TheVariants.{Few, Many}
@@ -26,7 +26,7 @@ use Rattle.cert_text.specs.declared.marks.PriceMark.{PriceMark}
 use Rattle.cert_text.specs.declared.marks.PriceMark.TheVariants as pair
 use Rattle.cert_text.specs.declared.marks.Told.{Told}
 use Rattle.cert_text.specs.declared.marks.Told.TheVariants.{Ended, Begun}
-use Rattle.cert_text.specs.Marks.{first_cut_mark, first_number, has_mark, mark_numbers, IsOf, AreOf, naming_mark, mark_of, begun_by, naming_prices, told_first, mark_in, is_later}
+use Rattle.cert_text.specs.Marks.{first_cut_mark, first_number, has_mark, is_in_form, mark_numbers, IsOf, AreOf, naming_mark, mark_of, begins, begun_by, naming_prices, told_first, mark_in, is_later}
 use Rattle.cert_text.proofs.TreeLemmas.{ReadsFirst, ReadsMarks, one_number, two_numbers}
 
 -- the mark is one number, or the first one of a kind and that of prices
@@ -61,7 +61,7 @@ module _ (own : Form) (numbering : Numbering) (version : Version) where
   told_above : (n : ℕ) → 9 < n → told n ≡ option_map Ended (naming_mark numbering n)
   unfolding mark_in mark_of
   told_above n high =
-      rw (above n 4 (omega (arith, high)), above n 5 (omega (arith, high)), above n 0 (omega (arith, high)), above n 1 (omega (arith, high)), above n 2 (omega (arith, high)), above n 3 (omega (arith, high))) refl
+      rw (above n 4 (omega (arith, high)), above n 5 (omega (arith, high)), above n 6 (omega (arith, high)), above n 0 (omega (arith, high)), above n 1 (omega (arith, high)), above n 2 (omega (arith, high)), above n 3 (omega (arith, high))) refl
 
   priced_told : (kind : PriceMark) (v : ℕ) → v < 2 ^ 63 → mark_in own numbering version (Some kind) (number_data v) ≡ Some (Ended (naming_prices kind v))
   unfolding mark_in
@@ -73,15 +73,18 @@ open_told : (numbering : Numbering) (version : Version) → mark_in form.Open nu
 unfolding mark_in mark_of
 open_told numbering version = refl
 
--- a kind of marks that the version has
-kind_begun : (own : Form) (numbering : Numbering) (version : Version) (kind : PriceMark) → not (has_mark version kind) ≡ false → mark_in own numbering version None (number_data (first_number kind)) ≡ Some (Begun kind)
+-- a kind of marks that the version and the form have
+kind_begun : (own : Form) (numbering : Numbering) (version : Version) (kind : PriceMark) → not (has_mark version kind) ≡ false → is_in_form kind own ≡ true → mark_in own numbering version None (number_data (first_number kind)) ≡ Some (Begun kind)
 unfolding mark_in
-kind_begun own numbering First kind has = absurd cc
-kind_begun own numbering Second kind has = absurd cc
-kind_begun own numbering Third pair.Reached has = refl
-kind_begun own numbering Third pair.Swept has = absurd cc
-kind_begun own numbering Fourth pair.Reached has = refl
-kind_begun own numbering Fourth pair.Swept has = refl
+kind_begun own numbering First kind has suits = absurd cc
+kind_begun own numbering Second kind has suits = absurd cc
+kind_begun own numbering Third pair.Reached has suits = refl
+kind_begun own numbering Third pair.Swept has suits = absurd cc
+kind_begun own numbering Third pair.Shown has suits = absurd cc
+kind_begun own numbering Fourth pair.Reached has suits = refl
+kind_begun own numbering Fourth pair.Swept has suits = refl
+kind_begun form.Whole numbering Fourth pair.Shown has suits = absurd cc
+kind_begun form.Open numbering Fourth pair.Shown has suits = refl
 
 probe_named : (numbering : Numbering) (s : ℕ) → s < probed_ships numbering → naming_mark numbering (10 + s) ≡ Some (Leaf (Probe s))
 unfolding naming_mark
@@ -123,10 +126,12 @@ mark_told own numbering version (Leaf Bound) formed kind has = inl (1, refl, bou
 mark_told own numbering version (Leaf Throughput) formed kind has = inl (2, refl, throughput_told own numbering version)
 mark_told own numbering version (Leaf (Probe s)) formed kind has = inl (10 + s, refl, probe_told own numbering version s formed)
 mark_told own numbering version (Leaf (Cut c)) formed kind has = inl (first_cut_mark numbering + c, refl, cut_told own numbering version c formed)
-mark_told own numbering version (Leaf (Price v)) formed kind has = inr (pair.Reached, v, refl, kind_begun own numbering version pair.Reached has, priced_told own numbering version pair.Reached v formed)
-mark_told own numbering version (Leaf (Swept v)) formed kind has = inr (pair.Swept, v, refl, kind_begun own numbering version pair.Swept has, priced_told own numbering version pair.Swept v formed)
+mark_told own numbering version (Leaf (Price v)) formed kind has = inr (pair.Reached, v, refl, kind_begun own numbering version pair.Reached has refl, priced_told own numbering version pair.Reached v formed)
+mark_told own numbering version (Leaf (Swept v)) formed kind has = inr (pair.Swept, v, refl, kind_begun own numbering version pair.Swept has refl, priced_told own numbering version pair.Swept v formed)
 mark_told form.Whole numbering version Open formed kind has = absurd kind
 mark_told form.Open numbering version Open formed kind has = inl (3, refl, open_told numbering version)
+mark_told form.Whole numbering version (OpenPriced v) formed kind has = absurd kind
+mark_told form.Open numbering version (OpenPriced v) formed kind has = inr (pair.Shown, v, refl, kind_begun form.Open numbering version pair.Shown has refl, priced_told form.Open numbering version pair.Shown v formed)
 
 mark_back : (own : Form) (numbering : Numbering) (version : Version) (m : Mark) → Numbers own numbering version m → ReadsFirst (mark_in own numbering version) (mark_numbers numbering) m
 mark_back own numbering version m (inl one) = one_number (mark_in own numbering version) (mark_numbers numbering) m one.0 one.1 one.2
@@ -154,19 +159,37 @@ abbrev NamesNone : Option Mark → Type 0
 NamesNone None = ⊤
 NamesNone (Some m) = IsNoOpenLeaf m
 
+-- no open leaf is begun
+abbrev BeginsNone : Option PriceMark → Type 0
+BeginsNone None = ⊤
+BeginsNone (Some kind) = is_in_form kind form.Whole ≡ true
+
 abbrev TellsNone : Option Told → Type 0
 TellsNone None = ⊤
 TellsNone (Some (Ended m)) = IsNoOpenLeaf m
-TellsNone (Some (Begun kind)) = ⊤
+TellsNone (Some (Begun kind)) = is_in_form kind form.Whole ≡ true
 
 either : {X : Type 0} (P : X → Type 0) (t : Bool) (x y : X) → P x → P y → P (cond t x y)
 either P true x y h k = h
 either P false x y h k = k
 
-first_none : (begun : Option PriceMark) (o : Option Mark) → NamesNone o → TellsNone (told_first begun o)
-first_none (Some kind) o h = tt
-first_none None None h = tt
-first_none None (Some m) h = h
+outside : (is has : Bool) → (is && (has && false)) ≡ false
+outside false has = refl
+outside true false = refl
+outside true true = refl
+
+first_none : (begun : Option PriceMark) (o : Option Mark) → BeginsNone begun → NamesNone o → TellsNone (told_first begun o)
+first_none (Some kind) o whole h = whole
+first_none None None whole h = tt
+first_none None (Some m) whole h = h
+
+begun_none : (version : Version) (n : ℕ) → BeginsNone (begun_by form.Whole version n)
+begun_none version n =
+    either BeginsNone (begins form.Whole version pair.Reached n) (Some pair.Reached) _ refl
+    (either BeginsNone (begins form.Whole version pair.Swept n) (Some pair.Swept) _ refl (shown_none version (n == 6)))
+  where
+    shown_none : (version : Version) (is : Bool) → BeginsNone (cond (is && (has_mark version pair.Shown && false)) (Some pair.Shown) None)
+    shown_none version is = rw (outside is (has_mark version pair.Shown)) tt
 
 module _ (numbering : Numbering) where
   naming_none : (n : ℕ) → NamesNone (naming_mark numbering n)
@@ -183,37 +206,42 @@ module _ (numbering : Numbering) where
       (either NamesNone (n == 2) (Some (Leaf Throughput)) _ tt
       (either NamesNone (n == 3) None _ tt (naming_none n))))
 
-  told_none : (version : Version) (begun : Option PriceMark) (d : Data) → TellsNone (mark_in form.Whole numbering version begun d)
+  told_none : (version : Version) (begun : Option PriceMark) (d : Data) → BeginsNone begun → TellsNone (mark_in form.Whole numbering version begun d)
   unfolding mark_in
-  told_none version (Some kind) d = priced kind (number_below 9223372036854775808 d)
+  told_none version (Some kind) d whole = priced kind (number_below 9223372036854775808 d) whole
     where
-      priced : (kind : PriceMark) (o : Option ℕ) → TellsNone (option_map Ended (o >>= λ number. Some (naming_prices kind number)))
-      priced kind None = tt
-      priced pair.Reached (Some v) = tt
-      priced pair.Swept (Some v) = tt
-  told_none version None d = first (number_in d)
+      priced : (kind : PriceMark) (o : Option ℕ) → is_in_form kind form.Whole ≡ true → TellsNone (option_map Ended (o >>= λ number. Some (naming_prices kind number)))
+      priced kind None whole = tt
+      priced pair.Reached (Some v) whole = tt
+      priced pair.Swept (Some v) whole = tt
+      priced pair.Shown (Some v) whole = absurd cc
+  told_none version None d whole = first (number_in d)
     where
-      first : (o : Option ℕ) → TellsNone (o >>= λ n. told_first (begun_by version n) (mark_of form.Whole numbering n))
+      first : (o : Option ℕ) → TellsNone (o >>= λ n. told_first (begun_by form.Whole version n) (mark_of form.Whole numbering n))
       first None = tt
-      first (Some n) = first_none (begun_by version n) (mark_of form.Whole numbering n) (number_none n)
+      first (Some n) = first_none (begun_by form.Whole version n) (mark_of form.Whole numbering n) (begun_none version n) (number_none n)
 
-  marks_whole : (version : Version) (begun : Option PriceMark) (items : Items) (marks : List Mark) → marks_in (mark_in form.Whole numbering version) begun items ≡ Some marks → HasNoOpenLeaf marks
-  marks_whole version (Some kind) no_items marks e = absurd (none-some marks e)
-  marks_whole version None no_items marks e = subst HasNoOpenLeaf (same_Some [] marks e) tt
-  marks_whole version begun (item d more) marks e = by_first (λ b ms g. marks_whole version b more ms g) (mark_in form.Whole numbering version begun d) (told_none version begun d) e
+  marks_whole : (version : Version) (begun : Option PriceMark) (items : Items) (marks : List Mark) → BeginsNone begun → marks_in (mark_in form.Whole numbering version) begun items ≡ Some marks → HasNoOpenLeaf marks
+  marks_whole version (Some kind) no_items marks whole e = absurd (none-some marks e)
+  marks_whole version None no_items marks whole e = subst HasNoOpenLeaf (same_Some [] marks e) tt
+  marks_whole version begun (item d more) marks whole e = by_first (λ b ms w g. marks_whole version b more ms w g) (mark_in form.Whole numbering version begun d) (told_none version begun d whole) e
     where
       by_rest : (told : Told) (rest : Option (List Mark)) → TellsNone (Some told) → ((ms : List Mark) → rest ≡ Some ms → HasNoOpenLeaf ms) → (rest >>= λ ms. Some (listed told ++ ms)) ≡ Some marks → HasNoOpenLeaf marks
       by_rest told None h later f = absurd (none-some marks f)
       by_rest (Begun kind) (Some ms) h later f = subst HasNoOpenLeaf (same_Some ms marks f) (later ms refl)
       by_rest (Ended m) (Some ms) h later f = subst HasNoOpenLeaf (same_Some (m ∷ ms) marks f) (h, later ms refl)
 
-      by_first : ((b : Option PriceMark) (ms : List Mark) → marks_in (mark_in form.Whole numbering version) b more ≡ Some ms → HasNoOpenLeaf ms) → (o : Option Told) → TellsNone o → (o >>= λ told. marks_in (mark_in form.Whole numbering version) (begun_behind told) more >>= λ ms. Some (listed told ++ ms)) ≡ Some marks → HasNoOpenLeaf marks
+      behind : (told : Told) → TellsNone (Some told) → BeginsNone (begun_behind told)
+      behind (Ended m) h = tt
+      behind (Begun kind) h = h
+
+      by_first : ((b : Option PriceMark) (ms : List Mark) → BeginsNone b → marks_in (mark_in form.Whole numbering version) b more ≡ Some ms → HasNoOpenLeaf ms) → (o : Option Told) → TellsNone o → (o >>= λ told. marks_in (mark_in form.Whole numbering version) (begun_behind told) more >>= λ ms. Some (listed told ++ ms)) ≡ Some marks → HasNoOpenLeaf marks
       by_first again None h f = absurd (none-some marks f)
-      by_first again (Some told) h f = by_rest told (marks_in (mark_in form.Whole numbering version) (begun_behind told) more) h (λ ms g. again (begun_behind told) ms g) f
+      by_first again (Some told) h f = by_rest told (marks_in (mark_in form.Whole numbering version) (begun_behind told) more) h (λ ms g. again (begun_behind told) ms (behind told h) g) f
 
   pub tree_whole : (version : Version) (d : Data) (marks : List Mark) → tree_in (mark_in form.Whole numbering version) d ≡ Some marks → HasNoOpenLeaf marks
   tree_whole version d marks e = by_items (as_array d) e
     where
       by_items : (items : Option Items) → (items >>= λ them. marks_in (mark_in form.Whole numbering version) None them) ≡ Some marks → HasNoOpenLeaf marks
       by_items None f = absurd (none-some marks f)
-      by_items (Some them) f = marks_whole version None them marks f
+      by_items (Some them) f = marks_whole version None them marks tt f

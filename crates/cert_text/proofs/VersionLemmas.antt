@@ -5,7 +5,7 @@ use Rattle.std.proofs.lemmas.Bool.Decides.{nat_tests}
 use Rattle.closing_rules.specs.declared.grounds.Ground.TheVariants.{Bound, Throughput, Probe, Cut, Price, Swept}
 use Rattle.closing_rules.specs.ProvedCuts.{CertCut}
 use Rattle.certificate_rules.specs.declared.certificate.Mark.{Mark}
-use Rattle.certificate_rules.specs.declared.certificate.Mark.TheVariants.{Split, Leaf, Open}
+use Rattle.certificate_rules.specs.declared.certificate.Mark.TheVariants.{Split, Leaf, Open, OpenPriced}
 use Rattle.certificate_rules.specs.Certificates.{Certificate}
 use Rattle.cert_text.specs.declared.heading.Form.{Form}
 use Rattle.cert_text.specs.declared.heading.Form.TheVariants as form
@@ -39,6 +39,7 @@ never_later (Leaf (Cut number)) = refl
 never_later (Leaf (Price number)) = refl
 never_later (Leaf (Swept number)) = refl
 never_later Open = refl
+never_later (OpenPriced number) = refl
 
 none_later : (tree : List Mark) → has_later Fourth tree ≡ false
 none_later [] = refl
@@ -55,6 +56,7 @@ same_later (Leaf (Cut number)) = refl
 same_later (Leaf (Price number)) = refl
 same_later (Leaf (Swept number)) = refl
 same_later Open = refl
+same_later (OpenPriced number) = refl
 
 first_later : (tree : List Mark) → has_later First tree ≡ has_later Second tree
 first_later [] = refl

@@ -4,7 +4,7 @@ use Rattle.lock_model.specs.Limits.{is_between}
 use Rattle.closing_rules.specs.declared.grounds.Ground.{Ground}
 use Rattle.closing_rules.specs.declared.grounds.Ground.TheVariants.{Bound, Throughput, Probe, Cut, Price, Swept}
 use Rattle.certificate_rules.specs.declared.certificate.Mark.{Mark}
-use Rattle.certificate_rules.specs.declared.certificate.Mark.TheVariants.{Split, Leaf, Open}
+use Rattle.certificate_rules.specs.declared.certificate.Mark.TheVariants.{Split, Leaf, Open, OpenPriced}
 use Rattle.certificate_rules.specs.declared.numbering.Numbering.{Numbering}
 use Rattle.certificate_rules.specs.declared.numbering.Numbering.TheVariants.{Few, Many}
 use Rattle.certificate_rules.specs.Certificates.{IsNoOpenLeaf, HasNoOpenLeaf}
@@ -30,6 +30,7 @@ first_cut_mark Many = 1000
 abbrev pub first_number : PriceMark → ℕ
 first_number pair.Reached = 4
 first_number pair.Swept = 5
+first_number pair.Shown = 6
 
 -- the version has marks of this kind
 abbrev pub has_mark : Version → PriceMark → Bool
@@ -37,7 +38,15 @@ has_mark First kind = false
 has_mark Second kind = false
 has_mark Third pair.Reached = true
 has_mark Third pair.Swept = false
+has_mark Third pair.Shown = false
 has_mark Fourth kind = true
+
+-- marks of this kind are in certificates of this form: an open leaf is a mark of an open one alone
+abbrev pub is_in_form : PriceMark → Form → Bool
+is_in_form pair.Reached own = true
+is_in_form pair.Swept own = true
+is_in_form pair.Shown form.Whole = false
+is_in_form pair.Shown form.Open = true
 
 abbrev pub ground_numbers : Numbering → Ground → List ℕ
 ground_numbers numbering Bound = 1 ∷ []
@@ -51,8 +60,9 @@ unfoldable pub mark_numbers : Numbering → Mark → List ℕ
 mark_numbers numbering Split = 0 ∷ []
 mark_numbers numbering (Leaf why) = ground_numbers numbering why
 mark_numbers numbering Open = 3 ∷ []
+mark_numbers numbering (OpenPriced v) = first_number pair.Shown ∷ v ∷ []
 
--- an open leaf is a mark of an open certificate alone
+-- an open leaf that names no prices is a mark of an open certificate alone
 abbrev pub open_leaf : Form → Option Mark
 open_leaf form.Whole = None
 open_leaf form.Open = Some Open
@@ -80,15 +90,21 @@ mark_of own numbering n =
     else (if n == 2 then Some (Leaf Throughput)
     else (if n == 3 then open_leaf own else naming_mark numbering n)))
 
--- the mark of two numbers that this number begins in a version
-abbrev pub begun_by : Version → ℕ → Option PriceMark
-begun_by version n =
-    if n == first_number pair.Reached && has_mark version pair.Reached then Some pair.Reached
-    else (if n == first_number pair.Swept && has_mark version pair.Swept then Some pair.Swept else None)
+-- this number begins a mark of this kind in certificates of this form and version
+abbrev pub begins : Form → Version → PriceMark → ℕ → Bool
+begins own version kind n = n == first_number kind && (has_mark version kind && is_in_form kind own)
+
+-- the mark of two numbers that this number begins
+abbrev pub begun_by : Form → Version → ℕ → Option PriceMark
+begun_by own version n =
+    if begins own version pair.Reached n then Some pair.Reached
+    else (if begins own version pair.Swept n then Some pair.Swept
+    else (if begins own version pair.Shown n then Some pair.Shown else None))
 
 abbrev pub naming_prices : PriceMark → ℕ → Mark
 naming_prices pair.Reached v = Leaf (Price v)
 naming_prices pair.Swept v = Leaf (Swept v)
+naming_prices pair.Shown v = OpenPriced v
 
 -- the mark of the second number of two
 abbrev pub second_in : PriceMark → Data → Option Mark
@@ -106,7 +122,7 @@ unfoldable pub mark_in : Form → Numbering → Version → Option PriceMark →
 mark_in own numbering version (Some kind) d = option_map Ended (second_in kind d)
 mark_in own numbering version None d = do
   n ← number_in d
-  told_first (begun_by version n) (mark_of own numbering n)
+  told_first (begun_by own version n) (mark_of own numbering n)
 
 -- a mark that the version doesn't have, but a later one
 abbrev pub is_later_ground : Version → Ground → Bool
@@ -121,3 +137,4 @@ unfoldable pub is_later : Version → Mark → Bool
 is_later version Split = false
 is_later version (Leaf why) = is_later_ground version why
 is_later version Open = false
+is_later version (OpenPriced number) = not (has_mark version pair.Shown)

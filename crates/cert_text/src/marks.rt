@@ -3,8 +3,8 @@ ghost use Rattle.std.specs.Prelude.{◌≡◌, ◌≤◌, ◌++◌, ◌∷◌, [
 ghost use Rattle.certificate_rules.specs.WellFormed.{IsFormedGround, IsFormedMark, numbering_of, probed_ships};
 ghost use Rattle.serde_json.specs.View.{view};
 ghost use Rattle.cert_text.specs.Fields.{number_data};
-ghost use Rattle.cert_text.specs.Marks.{first_cut_mark, first_number, has_mark, ground_numbers, mark_numbers, open_leaf, naming_mark, mark_of, begun_by};
-ghost use Rattle.cert_text.specs.Marks.{naming_prices, second_in, mark_in, is_later};
+ghost use Rattle.cert_text.specs.Marks.{first_cut_mark, first_number, has_mark, is_in_form, ground_numbers, mark_numbers, open_leaf, naming_mark, mark_of};
+ghost use Rattle.cert_text.specs.Marks.{begins, begun_by, naming_prices, second_in, mark_in, is_later};
 
 use crate::heading::{Form, Version};
 use crate::value::{number_below, push_number};
@@ -21,6 +21,9 @@ pub enum PriceMark {
     Reached,
     /// The cost is swept, which goes well by the prices; from the fourth version on.
     Swept,
+    /// An open leaf: the prices show what a plan under its node costs at the least; in open
+    /// certificates from the fourth version on.
+    Shown,
 }
 
 /// What a number of a tree says.
@@ -73,6 +76,7 @@ fn first_number(kind: PriceMark) -> u64
     match kind {
         PriceMark::Reached => 4,
         PriceMark::Swept => 5,
+        PriceMark::Shown => 6,
     }
 }
 
@@ -83,8 +87,19 @@ fn has_mark(version: Version, kind: PriceMark) -> bool
     match (version, kind) {
         (Version::First | Version::Second, _) => false,
         (Version::Third, PriceMark::Reached) => true,
-        (Version::Third, PriceMark::Swept) => false,
+        (Version::Third, PriceMark::Swept | PriceMark::Shown) => false,
         (Version::Fourth, _) => true,
+    }
+}
+
+/// Whether marks of this kind are in certificates of this form.
+fn is_in_form(kind: PriceMark, form: Form) -> bool
+    ensures { result ≡ is_in_form kind form }
+{
+    match (kind, form) {
+        (PriceMark::Reached | PriceMark::Swept, _) => true,
+        (PriceMark::Shown, Form::Whole) => false,
+        (PriceMark::Shown, Form::Open) => true,
     }
 }
 
@@ -111,7 +126,7 @@ fn push_ground(list: &mut Vec<Value>, numbering: Numbering, why: Ground) -> Resu
     }
 }
 
-/// An open leaf, where an open certificate has it.
+/// An open leaf that names no prices, where an open certificate has it.
 fn open_leaf(form: Form) -> Option<Mark>
     ensures { result ≡ open_leaf form }
 {
@@ -151,14 +166,23 @@ fn mark_of(form: Form, numbering: Numbering, number: u64) -> Option<Mark>
     }
 }
 
-/// Which mark of two numbers a number begins in a version.
-fn begun_by(version: Version, number: u64) -> Option<PriceMark>
-    ensures { result ≡ begun_by version number }
+/// Whether a number begins a mark of this kind in certificates of this form and version.
+fn begins(form: Form, version: Version, kind: PriceMark, number: u64) -> bool
+    ensures { result ≡ begins form version kind number }
 {
-    if number == first_number(PriceMark::Reached) && has_mark(version, PriceMark::Reached) {
+    number == first_number(kind) && (has_mark(version, kind) && is_in_form(kind, form))
+}
+
+/// Which mark of two numbers a number begins in certificates of this form and version.
+fn begun_by(form: Form, version: Version, number: u64) -> Option<PriceMark>
+    ensures { result ≡ begun_by form version number }
+{
+    if begins(form, version, PriceMark::Reached, number) {
         Some(PriceMark::Reached)
-    } else if number == first_number(PriceMark::Swept) && has_mark(version, PriceMark::Swept) {
+    } else if begins(form, version, PriceMark::Swept, number) {
         Some(PriceMark::Swept)
+    } else if begins(form, version, PriceMark::Shown, number) {
+        Some(PriceMark::Shown)
     } else {
         None
     }
@@ -171,6 +195,7 @@ fn naming_prices(kind: PriceMark, number: u64) -> Mark
     match kind {
         PriceMark::Reached => Mark::Leaf(Ground::Price(number)),
         PriceMark::Swept => Mark::Leaf(Ground::Swept(number)),
+        PriceMark::Shown => Mark::OpenPriced(number),
     }
 }
 
@@ -188,14 +213,14 @@ fn first_in(form: Form, numbering: Numbering, version: Version, value: &Value) -
     ensures { result ≡ mark_in form numbering version None (view value.now) }
 {
     let number = value.as_u64()?;
-    match begun_by(version, number) {
+    match begun_by(form, version, number) {
         Some(kind) => Some(Told::Begun(kind)),
         None => Some(Told::Ended(mark_of(form, numbering, number)?)),
     }
 }
 
-/// What a number of a tree says in a version: the mark that it ends, or the one of two numbers that it
-/// begins. `begun` says which stands before it. None where it says nothing. Takes no memory.
+/// What a number of a tree says in a form and a version: the mark that it ends, or the one of two numbers
+/// that it begins. `begun` says which stands before it. None where it says nothing. Takes no memory.
 #[tactic(auto, unfolding(crate::specs::Marks::mark_in))]
 pub fn mark_in(
     form: Form,
@@ -222,6 +247,7 @@ pub fn push_mark(list: &mut Vec<Value>, numbering: Numbering, mark: Mark) -> Res
         Mark::Split => push_number(list, 0),
         Mark::Leaf(why) => push_ground(list, numbering, why),
         Mark::Open => push_number(list, 3),
+        Mark::OpenPriced(number) => push_pair(list, PriceMark::Shown, number),
     }
 }
 
@@ -233,6 +259,7 @@ pub fn is_later(version: Version, mark: Mark) -> bool
     match mark {
         Mark::Leaf(Ground::Price(_)) => !has_mark(version, PriceMark::Reached),
         Mark::Leaf(Ground::Swept(_)) => !has_mark(version, PriceMark::Swept),
+        Mark::OpenPriced(_) => !has_mark(version, PriceMark::Shown),
         _ => false,
     }
 }

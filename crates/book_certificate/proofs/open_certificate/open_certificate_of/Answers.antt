@@ -1,5 +1,5 @@
 use Rattle.std.proofs.Common.{◌∙◌}
-use Rattle.book_certificate.proofs.WholeLemmas.{is-standing, is-formed, has-low, many-marks, more-marks}
+use Rattle.book_certificate.proofs.WholeLemmas.{is-standing, is-formed, shows-verdict, many-marks, more-marks}
 use Rattle.book_certificate.proofs.open_certificate.open_certificate_of.Goals as goal
 
 pub returns-clause-stands : goal.returns-clause-stands
@@ -14,7 +14,7 @@ returns-clause-formed c =
 
 pub returns-clause-low : goal.returns-clause-low
 returns-clause-low c =
-    has-low c.args.book.now c.keeps.ensures.keeps c.keeps.ensures.parts _
+    shows-verdict c.args.book.now c.keeps.ensures.keeps c.keeps.ensures.parts _
     (record { cost = c.best_cost.ensures; cuts = c.in_ok-cuts_of.ensures.value; plan = c.copy.ensures ∙ c.best.ensures.value; prices = c.in_ok-prices_of.ensures.value; marks = c.in_ok-marks_of.ensures })
 
 pub returns-clause-marks : goal.returns-clause-marks
