@@ -12,14 +12,12 @@ use Rattle.refute_rules.specs.Trees.{AreInOrder}
 use Rattle.certificate_rules.specs.declared.certificate.Mark.{Mark}
 use Rattle.certificate_rules.specs.declared.certificate.Mark.TheVariants as mark
 use Rattle.certificate_rules.specs.declared.certificate.Reason.{Reason}
-use Rattle.certificate_rules.specs.declared.certificate.Reason.TheVariants as reason
 use Rattle.certificate_rules.specs.Certificates.{IsMarkTree}
 use Rattle.certificate_rules.specs.Failures.{FailInOrder, TreeFails, reason_of}
 use Rattle.master_branch.specs.Node.{children, child_lines}
 use Rattle.cert_check.specs.Reading.{Ends, IsTreeOf, TreeSticks, IsRead, IsStuck, IsChildRead, IsChildStuck, AreRead, AreStuck}
 use Rattle.cert_check.specs.declared.claim.Claim.{Claim}
 use Rattle.certificate_rules.proofs.TreeLemmas.{in_order-append, in_order-fails, lacks-one, leaf-tree, wrong-tree, tree-shorter, stuck-shorter}
-use Rattle.closing_rules.specs.declared.grounds.Ground.TheVariants as by
 
 -- a test of a bound tells whether it reaches the cost
 pub told-reached : (cost bound : ℕ) (b : Bool) → b ≡ nat_le cost bound → IsTrue b ↔ (cost ≤ bound)

@@ -1,17 +1,16 @@
 -- The first failure of the marks, and that a certificate that doesn't stand has one first failure.
-use Rattle.std.specs.Prelude.{ℕ, ◌≡◌, ◌-◌, List, [], ◌∷◌, length, All}
+use Rattle.std.specs.Prelude.{ℕ, ◌≡◌, ◌≤◌, ◌-◌, List, [], length, All}
 use Rattle.lock_model.specs.declared.instance.Instance.{Instance}
 use Rattle.lock_model.specs.declared.plan.Plan.{Plan}
 use Rattle.lock_rules.specs.Plan.{IsLegal, cost_of}
 use Rattle.lock_rules.specs.Node.{root_lines}
-use Rattle.lock_rules.specs.Bound.{least_number}
 use Rattle.certificate_rules.specs.declared.certificate.FailurePlace.{FailurePlace}
 use Rattle.certificate_rules.specs.declared.certificate.Reason.{Reason}
 use Rattle.certificate_rules.specs.declared.certificate.Mark.{Mark}
 use Rattle.closing_rules.specs.ProvedCuts.{CertCut, IsProved}
 use Rattle.closing_rules.specs.ListedPrices.{AreShapedPrices}
 use Rattle.certificate_rules.specs.Certificates.{Certificate, EndsNode, IsMarkTree, Stands}
-use Rattle.certificate_rules.specs.Low.{HasOpen, AreLeafLows}
+use Rattle.certificate_rules.specs.Low.{EndsShowing}
 use Rattle.certificate_rules.specs.Failures.{MarksFail, FailsAt, Fails}
 use Rattle.cert_check.specs.declared.claim.Claim.{Claim}
 
@@ -43,12 +42,12 @@ pub record FailAtMark (I : Instance) (cost : ℕ) (cuts : List CertCut) (prices 
   pub place : p ≡ length marks - length stuck
   pub fails : MarksFail I (EndsNode I cost cuts prices) marks stuck r
 
--- the marks are one tree of the root, and `low` is the least of the cost and the lows of its open leaves
+-- the marks are one tree of the root, and of the numbers up to the cost `low` is the greatest that all its open leaves show
 pub record IsLowOfMarks (I : Instance) (cost : ℕ) (cuts : List CertCut) (prices : List (List ℕ)) (marks : List Mark) (low : ℕ) : Type 0 where
   pub tree : IsMarkTree I (EndsNode I cost cuts prices) (length I.ships) 0 root_lines marks []
-  pub lows : List ℕ
-  pub leaves : HasOpen I (AreLeafLows I cost cuts prices) (length I.ships) 0 root_lines marks [] lows
-  pub least : low ≡ least_number (cost ∷ lows)
+  pub most : low ≤ cost
+  pub shown : IsMarkTree I (EndsShowing I cost cuts prices low) (length I.ships) 0 root_lines marks []
+  pub greatest : (n : ℕ) → n ≤ cost → IsMarkTree I (EndsShowing I cost cuts prices n) (length I.ships) 0 root_lines marks [] → n ≤ low
 
 -- the same of marks that are held against a claim
 abbrev pub FailsBy : Claim → List Mark → ℕ → Reason → Type 0

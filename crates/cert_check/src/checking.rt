@@ -156,7 +156,7 @@ fn low_or_failure(
 
 /// Checks a certificate of an instance without any search of nodes: its plan, then its cost, then its cuts
 /// in order, then its prices in order, then its marks in order, each mark once. An open leaf ends its
-/// node.
+/// node, unless it names prices that aren't there.
 ///
 /// `Stands` exactly where the certificate stands, with its low and its cost in minutes; then its plan is
 /// legal and costs as much, and every legal plan costs at least the low. Where it leaves no node open as

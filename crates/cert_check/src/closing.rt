@@ -114,8 +114,8 @@ fn is_closed_by(
     }
 }
 
-// Whether a mark ends the node: it closes it, or leaves it open. Refuses want of memory alone, and
-// only of a price mark and of one that tells of a sweep.
+// Whether a mark ends the node: it closes it, or leaves it open, by prices that are there where it
+// names some. Refuses want of memory alone, and only of a price mark and of one that tells of a sweep.
 pub(crate) fn ends(
     claim: &Claim,
     node: &Node,
@@ -129,6 +129,7 @@ pub(crate) fn ends(
         Mark::Split => Ok(false),
         Mark::Leaf(why) => is_closed_by(claim, node, why, space),
         Mark::Open => Ok(true),
+        Mark::OpenPriced(number) => Ok(number < claim.prices.len() as u64),
     }
 }
 
@@ -146,13 +147,14 @@ fn reason_by(why: Ground) -> Reason
     }
 }
 
-// Why a mark that should end a node doesn't; a split is wrong where no ship is lacking, and an open
-// leaf never.
+// Why a mark that should end a node doesn't; a split is wrong where no ship is lacking, an open leaf
+// by prices where there are none of its number, and any other open leaf never.
 pub(crate) fn reason_against(mark: Mark) -> Reason
     ensures { result ≡ reason_of mark }
 {
     match mark {
         Mark::Split | Mark::Open => Reason::SplitFull,
         Mark::Leaf(why) => reason_by(why),
+        Mark::OpenPriced(_) => Reason::SweptWrong,
     }
 }

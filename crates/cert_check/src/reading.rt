@@ -1,24 +1,22 @@
 //! The marks of a certificate, read once along its tree.
 ghost use Rattle.std.specs.Prelude.{◌≡◌, ◌<◌, ◌↔◌, [], ◌∷◌, length, IsTrue, IfOk, IfErr, IfNone, IfSome};
-ghost use Rattle.lock_rules.specs.Bound.{bound_of, least_number};
 ghost use Rattle.master_branch.specs.Node.{IsNodeOf, children};
-ghost use Rattle.certificate_rules.specs.Low.{leaf_bounds};
 ghost use Rattle.cert_check.specs.Splitting.{IsSplit};
 ghost use Rattle.cert_check.specs.Reading.{IsStuck, IsChildStuck, AreStuck, IsReadLow, IsChildReadLow, AreAllReadLow};
 
 use crate::claim::Claim;
 use crate::closing::{ends, reason_against};
+use crate::lowering::lowered;
 use crate::splitting::{SplitNode, child_of, child_reaches, count_children, split};
 use crate::workspace::Workspace;
 use certificate_parts::{Ground, Mark};
 use certificate_rules::Reason;
-use flow_bounds::bound;
 use lock_model::Instance;
 use master_branch::Node;
 use no_memory::NoMemory;
 
-// What was read: the marks behind it, and the least of the bounds of the open leaves so far and of
-// the number that reading began with.
+// What was read: the marks behind it, and the greatest number that all open leaves show so far, of those
+// up to the number that reading began with.
 #[derive(Drop)]
 pub(crate) struct Read<'m> {
     pub(crate) marks: &'m [Mark],
@@ -61,17 +59,6 @@ fn splits(instance: &Instance, node: &Node, mark: Mark) -> bool
     ensures { IsTrue result ↔ (mark ≡ Mark.Split) × (node.now.depth < length instance.now.ships) }
 {
     mark == Mark::Split && (node.depth() as usize) < instance.ships.as_slice().len()
-}
-
-// The lesser of a number and the bound of the node, where the mark leaves it open.
-fn lowered(instance: &Instance, node: &Node, mark: Mark, low: u64) -> u64
-    requires { IsNodeOf instance.now node.now }
-    ensures { result ≡ least_number (low ∷ leaf_bounds (bound_of instance.now node.now.depth node.now.lines) mark) }
-{
-    match mark {
-        Mark::Open => low.min(bound(instance, node)),
-        _ => low,
-    }
 }
 
 // Reads a tree of child `i` of a split node, which is made for it.
@@ -175,9 +162,10 @@ pub(crate) fn read_tree<'m>(
         return read_children(claim, node, low, rest, space);
     }
     if ends(claim, node, mark, space)? {
+        let least = lowered(claim, node, mark, low, space)?;
         return Ok(Ok(Read {
             marks: rest,
-            low: lowered(claim.instance, node, mark, low),
+            low: least,
         }));
     }
     Ok(Err(Stuck {

@@ -75,7 +75,7 @@ read_tree-returns-then-branch-clause-read n c =
     let claim = c.args.claim.now in
     let node = c.args.node.now in
     let ended : EndsNode claim.instance.now claim.cost claim.cuts.now claim.prices.now node.depth node.lines c.in-Some.mark = search rules in
-    leaf-low claim node c.args.low c.in-Some.mark c.args.marks.now c.in-Some.rest.now c.lowered.result c.in-Some.ensures.some ended c.lowered.ensures
+    leaf-low claim node c.args.low c.in-Some.mark c.args.marks.now c.in-Some.rest.now c.in_ok-least.least c.in-Some.ensures.some ended c.in_ok-least.ensures
 
 pub read_tree-returns-clause-stuck : goal.read_tree-returns-clause-stuck
 read_tree-returns-clause-stuck n c =
