@@ -4,7 +4,8 @@ import json
 
 import texts
 from check_dossier import Bounds, Node, end_of
-from dossier_text import BOUND, FEW_SHIPS, FIRST_CUT, FIRST_PROBE, OPEN_LEAF, PRICE, SPLIT, SWEEP, THROUGHPUT, Priced, Swept
+from dossier_text import (BOUND, FEW_SHIPS, FIRST_CUT, FIRST_PROBE, OPEN_LEAF, OPEN_PRICE, PRICE, SPLIT, SWEEP, THROUGHPUT, OpenPriced,
+                          Priced, Swept)
 from price_bound import PriceBound
 
 
@@ -13,7 +14,7 @@ def written(instance, certificate, is_open, line):
     plan = [{"chamber": each.chamber, "ships": list(each.ships), "spots": [list(spot) for spot in each.spots],
              "start": each.start, "way": each.way} for each in certificate.plan]
     cuts = [{"chamber": cut.chamber, "ships": list(cut.ships), "why": [cut.why[0], *cut.why[1]]} for cut in certificate.cuts]
-    signs = {Priced: PRICE, Swept: SWEEP}
+    signs = {Priced: PRICE, Swept: SWEEP, OpenPriced: OPEN_PRICE}
     tree = [number for mark in certificate.tree for number in ([signs[type(mark)], mark.number] if type(mark) in signs else [mark])]
     value = {"cost": certificate.cost, "cuts": cuts, "plan": plan, "tree": tree}
     if line.endswith((b" 3", b" 4")):
@@ -77,6 +78,7 @@ def grafted(instance, certificate, is_open, line, dice):
         marks += [FIRST_PROBE + s for s in missing[:1]] + [first_cut + dice.below(len(certificate.cuts) + 1)]
         marks += [Priced(dice.below(len(certificate.prices) + 1))] * 2 if line.endswith((b" 3", b" 4")) else []
         marks += [Swept(dice.below(len(certificate.prices) + 1))] * 2 if line.endswith(b" 4") else []
+        marks += [OpenPriced(dice.below(len(certificate.prices) + 1))] * 2 if line == b"certificate open 4" else []
         return dice.pick(marks)
 
     is_split = node.depth < len(instance.ships) and dice.below(3) > 0
