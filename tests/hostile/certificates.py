@@ -1,4 +1,5 @@
-"""Dossiers made of ones that a program wrote: with price marks, with a swept root, and with another tree somewhere in their tree."""
+"""Dossiers made of ones that a program wrote: with price marks, with a swept root, with leaves that prices leave open, and with
+another tree somewhere in their tree."""
 
 import json
 
@@ -64,6 +65,13 @@ def swept(instance, certificate, is_open):
     prices = list(certificate.prices) or prices_of(instance, certificate.plan)
     line = b"certificate open 4" if is_open else b"certificate 4"
     return written(instance, certificate._replace(prices=prices, tree=[Swept(0)]), is_open, line)
+
+
+def left_open(instance, certificate):
+    """The open dossier of the fourth version in which each leaf of the tree is open by some prices."""
+    prices = list(certificate.prices) or prices_of(instance, certificate.plan)
+    tree = [mark if mark == SPLIT else OpenPriced(place % len(prices)) for place, mark in enumerate(certificate.tree)]
+    return written(instance, certificate._replace(prices=prices, tree=tree), True, b"certificate open 4")
 
 
 def grafted(instance, certificate, is_open, line, dice):
