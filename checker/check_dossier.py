@@ -28,7 +28,7 @@ import time
 from collections import namedtuple
 
 from dossier_text import (BOUND, CLOSED_FORMS, FEW_SHIPS, FIRST_CUT, FIRST_PROBE, OPEN_FORMS, OPEN_LEAF, SPLIT, THROUGHPUT,
-                          Answer, Priced, Swept, read_dossier)
+                          Answer, OpenPriced, Priced, Swept, read_dossier)
 from price_bound import PriceBound, hits_in
 from refutations import clash, deck_of, fits_alone, legal_placement, refutation_holds
 from sweeps import Sweep
@@ -168,7 +168,7 @@ def cut_hits(instance, cut, node):
 
 
 def check_tree(instance, cost, cuts, prices, marks):
-    """Walks the marks in preorder. It gives the least of the cost and the bounds of the open leaves."""
+    """Walks the marks in preorder. It gives the least of the cost and the lows of the open leaves."""
     bounds, low, priced = Bounds(instance), cost, PriceBound(instance, cuts, prices)
     throughput, first_cut = bounds.throughput(), FIRST_CUT[len(instance.ships) > FEW_SHIPS]
     due = [Node(0, ((),) * len(instance.chambers))]  # the nodes whose trees are still to come, the next one last
@@ -181,6 +181,9 @@ def check_tree(instance, cost, cuts, prices, marks):
             due += reversed(bounds.children(node))
         elif mark == OPEN_LEAF:
             low = min(low, bounds.bound(node))
+        elif isinstance(mark, OpenPriced):
+            demand(mark.number < len(prices), place, "SweptWrong")
+            low = min(low, max(bounds.bound(node), priced.greatest(node, mark.number, cost)))
         elif mark == BOUND:
             demand(bounds.bound(node) >= cost, place, "BoundLow")
         elif isinstance(mark, Priced):

@@ -153,10 +153,11 @@ def read_json(data):
 
 # The form of a dossier (dossier.md, The object; What has the form) ---------------------------------------------------
 
-SPLIT, BOUND, THROUGHPUT, OPEN_LEAF, PRICE, SWEEP, FIRST_PROBE = 0, 1, 2, 3, 4, 5, 10
+SPLIT, BOUND, THROUGHPUT, OPEN_LEAF, PRICE, SWEEP, OPEN_PRICE, FIRST_PROBE = 0, 1, 2, 3, 4, 5, 6, 10
 # marks of two numbers, of which the second says which prices
-Priced, Swept = namedtuple("Priced", "number"), namedtuple("Swept", "number")
+Priced, Swept, OpenPriced = (namedtuple(name, "number") for name in ("Priced", "Swept", "OpenPriced"))
 THIRD, FOURTH = {PRICE: Priced}, {PRICE: Priced, SWEEP: Swept}
+OPEN_FOURTH = {**FOURTH, OPEN_PRICE: OpenPriced}
 # The line that begins a dossier's second part says what the object may hold. Its plan has at most so many lockages, and
 # a list of prices so many numbers, as the greater of the few ships and those of the instance.
 Form = namedtuple("Form", "reasons pairs open_leaves ships", defaults=[{}, False, FEW_SHIPS])
@@ -165,7 +166,8 @@ PRICED_KEYS = KEYS + ("prices",)
 CLOSED_FORMS = {(b"certificate",): Form(5), (b"certificate", b"2"): Form(6),
                 (b"certificate", b"3"): Form(7, THIRD), (b"certificate", b"4"): Form(7, FOURTH)}
 OPEN_FORMS = {(b"certificate", b"open"): Form(6, {}, True),
-              (b"certificate", b"open", b"3"): Form(7, THIRD, True), (b"certificate", b"open", b"4"): Form(7, FOURTH, True)}
+              (b"certificate", b"open", b"3"): Form(7, THIRD, True),
+              (b"certificate", b"open", b"4"): Form(7, OPEN_FOURTH, True)}
 
 Certificate = namedtuple("Certificate", PRICED_KEYS, defaults=[()])
 Cut = namedtuple("Cut", "chamber ships why")  # why: the number of its kind, and the rest

@@ -121,7 +121,11 @@ class PriceBound:
     def least(self, c, line, depth, number):
         return Table(self.instance, c, self.cuts[c], line, self.order[depth:], self.prices[number]).least()
 
-    def reaches(self, node, number, cost):
+    def greatest(self, node, number, most):
+        """The greatest cost up to `most` that the node reaches, which is below 0 where it reaches none."""
         least = [self.least(c, line, node.depth, number) for c, line in enumerate(node.lines)]
         missing = sum(self.prices[number][s] for s in self.order[node.depth:])
-        return None in least or sum(least) + missing > 100 * cost - 100
+        return most if None in least else min(most, (sum(least) + missing + 99) // 100)
+
+    def reaches(self, node, number, cost):
+        return self.greatest(node, number, cost) == cost

@@ -3,7 +3,7 @@
 commands="solve check lot trial judge play replan lower resume picture"
 
 # what the script answers itself
-own_commands="table changes prove install help"
+own_commands="table changes stats prove install help"
 
 is_command() { [[ " $commands " == *" $1 "* ]]; }
 

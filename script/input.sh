@@ -33,9 +33,11 @@ take_input() {
 
 wait_for_keyboard() {
   if [ -t 0 ] && ! $is_named && [ -z "$wrong" ] && [ "$(most_files "$command")" -gt 0 ]; then
-    say "no file is named, so $command reads what you type; end it with Ctrl-D, or stop with Ctrl-C and name a file"
+    tell_of_keyboard "$command"
   fi
 }
+
+tell_of_keyboard() { say "no file is named, so $1 reads what you type; end it with Ctrl-D, or stop with Ctrl-C and name a file"; }
 
 # A pipe can be read once only, so it is taken as standard input is.
 take_file() {

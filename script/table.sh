@@ -1,4 +1,5 @@
-# A line for each day of a folder, of the reports that lie beside the locks; and what differs between two plans.
+# A line for each day of a folder, of the reports that lie beside the locks; what differs between two plans; and what stands in a
+# dossier.
 
 # table [--csv] FOLDER or FILES
 table() {
@@ -42,9 +43,30 @@ row_of_day() {
 changes() {
   local file
   [ $# = 2 ] || { say "changes needs two reports or plans, the old one and the new one"; return 2; }
-  for file in "$@"; do
-    [ -e "$file" ] || { say "there is no file \"$file\""; return 2; }
-    [ ! -d "$file" ] && [ -r "$file" ] || { say "$file can't be read"; return 66; }
-  done
+  for file in "$@"; do can_be_read "$file" || return; done
   awk -v first="$1" -v second="$2" -f "$script/time_of_day.awk" -f "$script/changes.awk" </dev/null
+}
+
+# stats DOSSIER; without it, or as -, standard input
+stats() {
+  local name="standard input"
+  [ $# -le 1 ] && [[ ${1-} != -?* ]] || { say "stats takes the name of one dossier"; return 2; }
+  if [ "${1--}" != - ]; then
+    can_be_read "$1" || return
+    name=$1
+    exec <"$1"
+  elif [ -t 0 ] && [ $# = 0 ]; then
+    tell_of_keyboard stats
+  fi
+  LC_ALL=C awk -f "$script/stats.awk"
+  case $? in
+    0) ;;
+    1) say_at "$name" "this is no dossier: no certificate follows the instance's line end"; return 7 ;;
+    *) return 5 ;;
+  esac
+}
+
+can_be_read() {
+  [ -e "$1" ] || { say "there is no file \"$1\""; return 2; }
+  [ ! -d "$1" ] && [ -r "$1" ] || { say "$1 can't be read"; return 66; }
 }

@@ -140,7 +140,7 @@ def a_mark(data, dice):
     head, value = parts(data)
     tree = value["tree"]
     first_cut = 1000 if head.count(b"\nship ") > 24 else 100
-    marks = [0, 1, 2, 3, 4, *range(10, 14), *range(first_cut, first_cut + len(value["cuts"]) + 1)]
+    marks = [*range(7), *range(10, 14), *range(first_cut, first_cut + len(value["cuts"]) + 1)]
     if not tree:
         return a_value(data, dice)
     at, kind = dice.below(len(tree)), dice.below(7)

@@ -69,6 +69,9 @@ certificate
 # the same as SECOND, by a sweep of the root
 SWEPT = SECOND.replace("certificate", "certificate 4").replace('"tree":[0,0,100,1,1]', '"prices":[[8500,8500]],"tree":[5,0]')
 
+# the same instance, its root left open by two lists of prices: by the first it reaches 119, and by the second 71
+SHOWN = SWEPT.replace("certificate 4", "certificate open 4").replace("[[8500,8500]]", "[[8400,8400],[3600,3600]]").replace("[5,0]", "[6,0]")
+
 # one up and one down, which never share a lockage
 BOTH_WAYS = SECOND.replace("s2 up", "s2 down").replace('50,"way":0', '35,"way":1').replace("120", "105").replace(
     "[0,0,100,1,1]", "[0,0,1,1]")
@@ -121,7 +124,7 @@ PART = "dossier fault 4 Shape part {}".format
 FIRST_TREE, SECOND_TREE = "[0,0,1,1,1]", "[0,0,100,1,1]"
 WHY, SPOTS = '"why":[1,0,1]', '"ships":[0],"spots":[[10,0,0,0]]'
 ACCEPTED, JSON, NO_MARK = "accepted cost 120", "dossier fault 3 Json", "dossier fault 2 NoMark"
-SWEPT_WRONG = "rejected tree 0 reason 14 SweptWrong"
+PRICE_LOW, SWEPT_WRONG = "rejected tree 0 reason 13 PriceLow", "rejected tree 0 reason 14 SweptWrong"
 UNPROVED, ILLEGAL = "rejected cut 0 reason 4 CutUnproved", "rejected plan reason 1 PlanIllegal"
 LAST_LINE, AFTER_END = SECOND.splitlines()[-1], SECOND[SECOND.index("certificate"):]
 
@@ -158,7 +161,7 @@ CHECKED = [
     (CLASH, "", "", ACCEPTED), (CLASH, "certificate 2\n", "certificate\n", PART(3)), (CLASH, "0 5 2\n", "0 5 1\n", UNPROVED),
     (OPEN, "", "", NO_MARK),
     # marks outside the grammar
-    *((FIRST, FIRST_TREE, f"[{mark}]", PART(5)) for mark in (3, 4, 9, 34, 50, 99, 2**63 + 100)),
+    *((FIRST, FIRST_TREE, f"[{mark}]", PART(5)) for mark in (3, 4, 6, 9, 34, 50, 99, 2**63 + 100)),
     (FIRST, FIRST_TREE, "[33]", "rejected tree 0 reason 11 ProbeWrong"),
     (FIRST, FIRST_TREE, "[0,100]", "rejected tree 1 reason 9 CutMisses"),
     # lenient reading
@@ -332,6 +335,28 @@ OPENED = [
         ("[5,0]", "lower 120 cost 120"), ("[3]", "lower 70 cost 120"), ("[5,1]", SWEPT_WRONG), ("[0,3,5]", PART(5)),
         ("[0,5,0]", "rejected tree 1 reason 14 SweptWrong"))),
     (SWEPT, "certificate 4", "certificate open 3", PART(5)), (SWEPT, "", "", NO_MARK),
+    # leaves that are open by prices: what these show, but no more than the cost, and no less than the bound
+    *((SHOWN, '"tree":[6,0]', f'"tree":{tree}', line) for tree, line in (
+        ("[6,0]", "lower 119 cost 120"), ("[6,1]", "lower 71 cost 120"), ("[0,6,0]", "lower 119 cost 120"), ("[0,6,1]", "lower 71 cost 120"),
+        ("[0,0,6,0,1,1]", "lower 120 cost 120"), ("[0,0,6,1,6,0,6,1]", "lower 120 cost 120"), ("[0,0,6,0,3,1]", "lower 120 cost 120"),
+        ("[0,0,3,6,0,1]", "lower 80 cost 120"), ("[6,2]", SWEPT_WRONG), ("[6,6]", SWEPT_WRONG), ("[6,9223372036854775807]", SWEPT_WRONG),
+        ("[0,0,6,0,6,2]", "rejected tree 3 reason 14 SweptWrong"), ("[0,0,6,2,6,3,1]", "rejected tree 2 reason 14 SweptWrong"),
+        ("[6,0,6,2]", "rejected tree 1 reason 6 TreeLong"), ("[0,6,0,1]", "rejected tree 2 reason 6 TreeLong"),
+        ("[0,0,6,0]", "rejected tree 3 reason 5 TreeShort"), ("[0,0,0,6,0]", "rejected tree 2 reason 7 SplitFull"),
+        ("[6,9223372036854775808]", PART(5)), ("[6]", PART(5)), ("[6,-1]", PART(5)), ("[6,0,6]", PART(5)), ("[0,0,6]", PART(5)),
+        ("[7,0]", PART(5)), ("[4,6]", PRICE_LOW), ("[5,6]", SWEPT_WRONG))),
+    *((SHOWN, "[[8400,8400],[3600,3600]]", prices, line) for prices, line in (
+        ("[[8500,8500]]", "lower 120 cost 120"), ("[[10000,10000]]", "lower 120 cost 120"), ("[[0,0]]", "lower 70 cost 120"),
+        ("[[3501,3500]]", "lower 70 cost 120"), ("[[3501,3501]]", "lower 71 cost 120"), ("[[3599,3600]]", "lower 71 cost 120"),
+        ("[]", SWEPT_WRONG), ("[[8400]]", "rejected prices 0 reason 12 PricesShape"))),
+    (SHOWN, '[{"chamber":0,"ships":[0,1],"why":[1,0,1]}]', "[]", "lower 80 cost 120"),
+    (SHOWN.replace('"start":50', '"start":51').replace("8400", "8500"), '"cost":120', '"cost":121', "lower 120 cost 121"),
+    (SHOWN.replace('"start":50', '"start":51').replace("[6,0]", "[0,0,6,0,1,1]"), '"cost":120', '"cost":121', "rejected tree 3 reason 8 BoundLow"),
+    *((SHOWN, "certificate open 4", heading, line) for heading, line in (
+        ("certificate open 3", PART(5)), ("certificate open", PART(1)), ("certificate 4", NO_MARK), ("certificate 3", NO_MARK))),
+    (OPEN, "[0,0,3,1,1]", "[6,0]", PART(5)),
+    *((LARGE.replace("certificate 3", "certificate open 4").replace('"prices":[]', f'"prices":[{[price] * 25}]'), ROOT, f'"tree":{tree}', line)
+      for price, tree, line in ((3500, "[6,0]", "lower 875 cost 875"), (0, "[6,0]", "lower 875 cost 875"), (3500, "[6,1]", SWEPT_WRONG))),
     # faults, and lenient reading
     *((OPEN, "certificate open", heading, line) for heading, line in (
         ("certificate", NO_MARK), ("certificate 2", NO_MARK), ("certificate 3", NO_MARK), ("certificate 4", NO_MARK),
@@ -344,7 +369,7 @@ OPENED = [
         ('{"cost"', ' \n { "cost"'), ('"cost":120', '"cost":1,"cost":120'), ("[0,0,3,1,1]}\n", "[0,0,3,1,1]}"))),
 ]
 
-PRICES, PRICE_LOW = "[[37,1466,980,193,426]]", "rejected tree 0 reason 13 PriceLow"
+PRICES = "[[37,1466,980,193,426]]"
 # what must be told within a limit of time and memory
 LIMITED = [(FAR_APART, "", "", PRICE_LOW), (FAR_APART, PRICES, str([[1_000_000] * 5]), PRICE_LOW),
            (FAR_APART, PRICES, "[[657,1477,1032,252,1151]]", "accepted cost 29")]
@@ -352,7 +377,7 @@ LIMITED = [(FAR_APART, "", "", PRICE_LOW), (FAR_APART, PRICES, str([[1_000_000] 
 
 def priced_rows():
     """The rows of dossiers with prices that both checkers are held against: data, line, status, and whether it is open."""
-    for name in ("priced_dossiers.rows", "swept_dossiers.rows"):
+    for name in ("priced_dossiers.rows", "swept_dossiers.rows", "open_by_prices.rows"):
         for _, words, data, asked in rows_of(ROWS / name, ("status", "line", "first")):
             if words[0] in (b"check", b"lower"):
                 yield data, (asked["line"][0], int(asked["status"][0])), words[0] == b"lower"

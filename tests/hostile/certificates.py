@@ -1,10 +1,12 @@
-"""Dossiers made of ones that a program wrote: with price marks, with a swept root, and with another tree somewhere in their tree."""
+"""Dossiers made of ones that a program wrote: with price marks, with a swept root, with leaves that prices leave open, and with
+another tree somewhere in their tree."""
 
 import json
 
 import texts
 from check_dossier import Bounds, Node, end_of
-from dossier_text import BOUND, FEW_SHIPS, FIRST_CUT, FIRST_PROBE, OPEN_LEAF, PRICE, SPLIT, SWEEP, THROUGHPUT, Priced, Swept
+from dossier_text import (BOUND, FEW_SHIPS, FIRST_CUT, FIRST_PROBE, OPEN_LEAF, OPEN_PRICE, PRICE, SPLIT, SWEEP, THROUGHPUT, OpenPriced,
+                          Priced, Swept)
 from price_bound import PriceBound
 
 
@@ -13,7 +15,7 @@ def written(instance, certificate, is_open, line):
     plan = [{"chamber": each.chamber, "ships": list(each.ships), "spots": [list(spot) for spot in each.spots],
              "start": each.start, "way": each.way} for each in certificate.plan]
     cuts = [{"chamber": cut.chamber, "ships": list(cut.ships), "why": [cut.why[0], *cut.why[1]]} for cut in certificate.cuts]
-    signs = {Priced: PRICE, Swept: SWEEP}
+    signs = {Priced: PRICE, Swept: SWEEP, OpenPriced: OPEN_PRICE}
     tree = [number for mark in certificate.tree for number in ([signs[type(mark)], mark.number] if type(mark) in signs else [mark])]
     value = {"cost": certificate.cost, "cuts": cuts, "plan": plan, "tree": tree}
     if line.endswith((b" 3", b" 4")):
@@ -65,6 +67,13 @@ def swept(instance, certificate, is_open):
     return written(instance, certificate._replace(prices=prices, tree=[Swept(0)]), is_open, line)
 
 
+def left_open(instance, certificate):
+    """The open dossier of the fourth version in which each leaf of the tree is open by some prices."""
+    prices = list(certificate.prices) or prices_of(instance, certificate.plan)
+    tree = [mark if mark == SPLIT else OpenPriced(place % len(prices)) for place, mark in enumerate(certificate.tree)]
+    return written(instance, certificate._replace(prices=prices, tree=tree), True, b"certificate open 4")
+
+
 def grafted(instance, certificate, is_open, line, dice):
     """The dossier with a leaf, or a split and its leaves, in the place of the tree of some node."""
     nodes, bounds = walked(instance, certificate.tree), Bounds(instance)
@@ -77,6 +86,7 @@ def grafted(instance, certificate, is_open, line, dice):
         marks += [FIRST_PROBE + s for s in missing[:1]] + [first_cut + dice.below(len(certificate.cuts) + 1)]
         marks += [Priced(dice.below(len(certificate.prices) + 1))] * 2 if line.endswith((b" 3", b" 4")) else []
         marks += [Swept(dice.below(len(certificate.prices) + 1))] * 2 if line.endswith(b" 4") else []
+        marks += [OpenPriced(dice.below(len(certificate.prices) + 1))] * 2 if line == b"certificate open 4" else []
         return dice.pick(marks)
 
     is_split = node.depth < len(instance.ships) and dice.below(3) > 0

@@ -24,7 +24,7 @@ sys.dont_write_bytecode = True
 HERE = pathlib.Path(__file__).resolve().parent
 sys.path += [str(HERE.parents[1] / "checker"), str(HERE.parent / "checker"), str(HERE.parent / "rows")]
 import texts
-from certificates import priced, swept
+from certificates import left_open, priced, swept
 from check_dossier import answer
 from damage import Dice
 from dossier_text import CLOSED_FORMS, OPEN_FORMS, read_dossier
@@ -141,7 +141,7 @@ def seeds(program):
             if len(dossier) <= LARGEST:
                 dossiers += [dossier, priced(instance, certificate, status == 1)]
             if len(instance.ships) <= SWEPT:
-                dossiers.append(swept(instance, certificate, status == 1))
+                dossiers += [swept(instance, certificate, status == 1), left_open(instance, certificate)]
     plans.append(b"".join((EXAMPLES / f"evening{end}").read_bytes() for end in (".lock", ".plan")))
     kinds = {b"solve": instances, b"judge": plans, b"play": plans, b"check": dossiers, b"lower": dossiers}
     for path in sorted((HERE.parent / "rows").glob("*.rows")):

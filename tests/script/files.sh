@@ -265,7 +265,7 @@ help nothing | 2 | | there is no help on "nothing"
 ROWS
 
 # Each command has a help, and its example works.
-for command in solve check lot trial judge play replan lower resume picture; do
+for command in solve check lot trial judge play replan lower resume picture stats; do
   call help "$command"
   example=$(sed -n '/^Example/{n;s/^  //;p}' <<<"$out")
   check "the example of $command" eval "(cd '$top' && $example) >'$room/out' 2>'$room/err' || [ \$? = 1 ]"

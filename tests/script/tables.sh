@@ -1,4 +1,4 @@
-# Tables of days, changes between plans, tables of other programs, and many days at once.
+# Tables of days, changes between plans, what stands in dossiers, tables of other programs, and many days at once.
 # (After install.sh, whose installed program solves the days.)
 
 mkdir "$room/days"
@@ -21,6 +21,17 @@ if command -v parallel >/dev/null; then
 else
   echo "left out: GNU parallel isn't here, so days by it weren't tried"
 fi
+
+# a dossier with white space, other orders of keys, and leaves of all kinds of numbers
+sed '6,$d' "$room/two.dossier" >"$room/spaced.dossier"
+cat >>"$room/spaced.dossier" <<'DOSSIER'
+certificate  open 4 # here
+{ "tree" : [0, 0, 6, 1, 4, 0,
+ 3], "prices" : [[8400,
+8400], [3600, 3600] ],
+"plan":[{"way":0,"chamber":0,"ships":[0],"spots":[[10,0,0,0]],"start":0},{"chamber":0,"ships":[1],"spots":[[10,0,0,0]],"start":50,"way":0}],
+"cuts":[ {"why":[1, 0, 1], "ships":[0,1], "chamber":0} ], "cost":120 }
+DOSSIER
 
 # A table goes by the locks, and has a line for a day without a report too.
 tabled() {
@@ -45,6 +56,19 @@ changes evening.plan evening-early.plan | 0 | 7 ships unchanged
 changes plain.report plain.report | 0 | 9 ships unchanged
 changes evening.plan | 2 | | changes needs two reports or plans
 changes evening.plan noplan | 2 | | there is no file "noplan"
+stats two.dossier | 0 | dossier     whole, version 1
+stats two.dossier | 0 | cut 0       c1 row s1 s2
+stats spaced.dossier | 0 | bytes       418
+stats spaced.dossier | 0 | price lists 2
+stats spaced.dossier | 0 | nodes       5
+stats spaced.dossier | 0 | open      2
+stats spaced.dossier | 0 | cut 0       c1 row s1 s2
+stats two.open | 0 | dossier     open, version 2
+stats plain.report | 7 | | plain.report: this is no dossier
+stats two.open two.open | 2 | | stats takes the name of one dossier
+stats --csv | 2 | | stats takes the name of one dossier
+stats nodossier | 2 | | there is no file "nodossier"
+stats days | 66 | | days can't be read
 help table | 0 | ./glock table [--csv] FOLDER
 changes --help | 0 | ./glock changes OLD NEW
 ROWS
