@@ -14,12 +14,14 @@ use price_bound::{KeptLines, PricedNode, show};
 use price_raise::{Ascent, Pace};
 use price_terms::{ChamberCut, Prices, Shown};
 use std::alloc::Global;
-use sweep::{SweepAsked, SweepEnd, SweepLimits, SweepOutcome, sweep};
+use sweep::{SweepAsked, SweepLimits, SweepOutcome, sweep};
 
 // The most rounds in a search, and the most at the first node that prices can serve and at any other.
 const MOST_ROUNDS: u32 = 10_000;
 // The most rounds that are tried at a node; the pricing ends them before.
 pub(crate) const MOST_AT_A_NODE: u32 = 1_000;
+// The most labels of one sweep, which take some 260 bytes each while it lasts.
+const MOST_LABELS_AT_ONCE: u64 = 650_000;
 // With fewer missing ships a node is searched faster than prices are worked out.
 const FEWEST_MISSING: usize = 5;
 
@@ -52,6 +54,16 @@ const STEADY_PACE: Pace = Pace {
     spans: 10,
 };
 
+// Labels of a sweep of many ships grow by a factor with each few minutes that the bound lacks, so steps are
+// made until hardly anything is gained. They shrink sooner, since a table takes long.
+const LASTING_PACE: Pace = Pace {
+    steps: 800,
+    kept: 9,
+    patience: 15,
+    span: 80,
+    spans: 200,
+};
+
 const PACE: Pace = Pace {
     steps: 40,
     kept: 3,
@@ -69,6 +81,8 @@ pub enum FirstNode {
     Brief,
     /// Last, and by prices that turn slowly: chambers take few ships at a time.
     Steady,
+    /// Not before prices hardly rise: there are many ships.
+    Lasting,
 }
 
 impl FirstNode {
@@ -78,6 +92,7 @@ impl FirstNode {
             FirstNode::Long => FIRST_PACE,
             FirstNode::Brief => BRIEF_PACE,
             FirstNode::Steady => STEADY_PACE,
+            FirstNode::Lasting => LASTING_PACE,
         }
     }
 }
@@ -114,7 +129,7 @@ pub struct Pricing {
 
 impl Pricing {
     /// Begins with these prices, one for each ship, at the first node. All sweeps together may make so many
-    /// labels, which take some 260 bytes each while a sweep lasts.
+    /// labels.
     pub fn new(
         alloc: Global,
         prices: Prices,
@@ -275,14 +290,15 @@ impl Pricing {
     }
 
     /// Sweeps a cost, in minutes, by these prices and the book's first cuts. None where that takes more
-    /// than `LIMITS` or the labels that are left, which is tried no more then, or for want of memory.
+    /// than `LIMITS` or the labels of one sweep or those that are left, which is tried no more then, or for
+    /// want of memory.
     pub(crate) fn sweep<'a>(
         &'a mut self,
         alloc: Global,
         instance: &'a Instance,
         prices: &'a Prices,
         goal: u64,
-    ) -> Option<SweepEnd<'a>> {
+    ) -> Option<SweepOutcome<'a>> {
         let asked = SweepAsked {
             instance,
             cuts: self.cuts.as_slice(),
@@ -290,14 +306,14 @@ impl Pricing {
             goal,
         };
         let limits = SweepLimits {
-            labels: self.labels as usize,
+            labels: self.labels.min(MOST_LABELS_AT_ONCE) as usize,
             groups: LIMITS.groups,
             turns: LIMITS.turns,
         };
         match sweep(alloc, &asked, limits) {
-            Ok(SweepOutcome { end, labels }) => {
-                self.labels = self.labels.saturating_sub(labels);
-                Some(end)
+            Ok(outcome) => {
+                self.labels = self.labels.saturating_sub(outcome.labels);
+                Some(outcome)
             }
             Err(_) => {
                 self.labels = 0;

@@ -7,10 +7,12 @@ use crate::found::carry_out;
 use crate::pricing::{Pricing, reached_by};
 use placed_groups::Memory;
 use price_terms::{Prices, Swept};
-use sweep::{SweepEnd, UncutPlan};
+use sweep::{SweepEnd, SweepOutcome, UncutPlan};
 
 // The most sweeps at the root.
 const MOST_SWEEPS: u32 = 200;
+// A sweep that made fewer labels cost next to nothing.
+const FEW_LABELS: u64 = 4_000;
 
 // Costs, in minutes, that are swept one after the other. What a sweep takes hangs on how far its goal is
 // above what prices reach, so goals rise from there.
@@ -26,9 +28,11 @@ impl Goals {
         self.reached.saturating_add(self.distance).min(best)
     }
 
-    // The next goal is a quarter farther. Labels grow so fast with the distance that the last sweep takes most.
-    fn rise(&mut self) {
-        let farther = self.distance / 4 + 1;
+    // After a sweep that made so many labels, the next goal is half as far again, or an eighth where they
+    // weren't few. Labels grow so fast with the distance that the last sweep takes most.
+    fn rise(&mut self, labels: u64) {
+        let parts = if labels < FEW_LABELS { 2 } else { 8 };
+        let farther = self.distance / parts + 1;
         self.distance = self.distance.saturating_add(farther);
     }
 }
@@ -108,16 +112,17 @@ fn sweep_once<D: Desk>(
     let best = desk.best_cost(hand, held);
     let goal = goals.next(best);
     let prices = pricing.ascent.best().copy();
-    match pricing.sweep(desk.alloc(), desk.instance(), &prices, goal) {
-        Some(SweepEnd::Swept(swept)) if goal == best => {
-            close_swept(desk, hand, held, &prices, &swept)
-        }
-        Some(SweepEnd::Swept(_)) => {
-            goals.rise();
+    let outcome = pricing.sweep(desk.alloc(), desk.instance(), &prices, goal);
+    let Some(SweepOutcome { end, labels }) = outcome else {
+        return Ok(AfterSweep::Open);
+    };
+    match end {
+        SweepEnd::Swept(swept) if goal == best => close_swept(desk, hand, held, &prices, &swept),
+        SweepEnd::Swept(_) => {
+            goals.rise(labels);
             Ok(AfterSweep::Again)
         }
-        Some(SweepEnd::Cheaper(plan)) => place(desk, hand, memory, held, plan),
-        None => Ok(AfterSweep::Open),
+        SweepEnd::Cheaper(plan) => place(desk, hand, memory, held, plan),
     }
 }
 

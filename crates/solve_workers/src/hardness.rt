@@ -40,11 +40,15 @@ const SMALL_BUDGET: u32 = 1_000;
 // rounds cost little.
 const FEW_AT_A_TIME: u8 = 2;
 
-// How many labels all sweeps of a search may make for each node of the budget, and at the most: they take
-// some 260 bytes each while a sweep lasts.
+// How many labels all sweeps of a search may make for each node of the budget, and at the most; of a large
+// instance, whose tree is closed by nothing else, many more.
 const LABELS_A_NODE: u64 = 100;
 
-const MOST_LABELS: u64 = 1_000_000;
+const MOST_LABELS: u64 = 400_000;
+
+const LABELS_A_NODE_OF_LARGE: u64 = 1_000;
+
+const MOST_LABELS_OF_LARGE: u64 = 2_000_000;
 
 /// How many nodes of a case are searched before it is told whether it is hard: all of a small budget.
 pub(crate) fn first_nodes(case: &Case) -> u32 {
@@ -106,7 +110,9 @@ fn takes_few(instance: &Instance) -> bool {
 // How the first node is priced for so many workers. Two, or those of several chambers, are slower where
 // it has worse prices, since more nodes are below it. So is a large instance with any number.
 fn first_node(case: &Case, workers: u8) -> FirstNode {
-    if case.instance.is_large() || takes_few(&case.instance) {
+    if case.instance.is_large() {
+        FirstNode::Lasting
+    } else if takes_few(&case.instance) {
         FirstNode::Steady
     } else if workers > 2 && case.instance.chambers.as_slice().len() == 1 {
         FirstNode::Brief
@@ -115,12 +121,21 @@ fn first_node(case: &Case, workers: u8) -> FirstNode {
     }
 }
 
+// How many labels all sweeps of a search may make.
+fn most_labels(case: &Case) -> u64 {
+    let (a_node, most) = if case.instance.is_large() {
+        (LABELS_A_NODE_OF_LARGE, MOST_LABELS_OF_LARGE)
+    } else {
+        (LABELS_A_NODE, MOST_LABELS)
+    };
+    (case.nodes as u64).saturating_mul(a_node).min(most)
+}
+
 // Prices to begin with: what each ship costs in the best plan.
 fn first_pricing(alloc: Global, book: &Book, first: FirstNode) -> Option<Pricing> {
     let case = book.case();
     let prices = first_prices(&case.instance, book.best());
-    let labels = (case.nodes as u64 * LABELS_A_NODE).min(MOST_LABELS);
-    Pricing::new(alloc, prices, first, labels).ok()
+    Pricing::new(alloc, prices, first, most_labels(case)).ok()
 }
 
 // The board of what was found at the root, if anything was and there is memory for it.
