@@ -7,6 +7,7 @@ use Rattle.closing_rules.specs.declared.grounds.Ground.TheVariants as by
 -- neither a bound mark nor an open leaf
 abbrev pub is_prior : Mark → Bool
 is_prior mark.Open = false
+is_prior (mark.OpenPriced number) = false
 is_prior (mark.Leaf by.Bound) = false
 is_prior m = true
 

@@ -10,7 +10,7 @@ fn weight(mark: &Mark) -> u64
     ensures most { result ≤ 1 }
 {
     match mark {
-        Mark::Open | Mark::Leaf(Ground::Bound) => 0,
+        Mark::Open | Mark::OpenPriced(_) | Mark::Leaf(Ground::Bound) => 0,
         _ => 1,
     }
 }
