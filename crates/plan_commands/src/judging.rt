@@ -39,7 +39,8 @@ fn judged_text(
     Ok(text)
 }
 
-// What is said of a legal plan.
+// What is said of a legal plan. Inlined, its plan made neat would be on the stack while the text is read.
+#[inline(never)]
 #[tactic(auto, using(crate::proofs::AnswerLemmas::neat_prints))]
 fn legal_answer(alloc: Global, bytes: &[u8], instance: &Instance, plan: &Plan) -> Answer
     requires { IsLegallyPlanned bytes.now instance.now plan.now }

@@ -30,7 +30,9 @@ fn day_answer(alloc: Global, bytes: &[u8], instance: &Instance, plan: &Plan, day
     }
 }
 
-// What comes of playing the plan that the bytes name.
+// What comes of playing the plan that the bytes name. Inlined, its day would be on the stack while the text
+// is read.
+#[inline(never)]
 #[tactic(auto, using(crate::proofs::AnswerLemmas::play_illegal))]
 fn plan_answer(alloc: Global, bytes: &[u8], instance: &Instance, plan: &Plan) -> Answer
     requires { IsPlanned bytes.now instance.now plan.now }
