@@ -25,7 +25,9 @@ pub struct CheckedDossier {
     pub low: u64,
 }
 
-// The low of a certificate that stands, or what is answered where it doesn't.
+// The low of a certificate that stands, or what is answered where it doesn't. Inlined, what the check needs
+// would be on the stack while the text is read.
+#[inline(never)]
 fn low_of(
     alloc: Global,
     form: Form,

@@ -49,6 +49,7 @@ fn dossier_answer(alloc: Global, bytes: &[u8]) -> Answer
 /// Reads a dossier to its end and checks its certificate without any search, or says what is
 /// refused: too many bytes, a fault of the dossier, a ship that fits no chamber, or the certificate's
 /// first failure.
+#[inline(never)]
 #[tactic(auto, using(crate::proofs::DossierLemmas::check_fair, run_answers::proofs::SourceLemmas::bytes_answer, run_answers::proofs::SourceLemmas::unreadable_answers))]
 pub fn check_answer<S: Source>(alloc: Global, src: &mut S) -> Answer
     ensures answer { AnswersSource dossier_limit AnswersCheck (drained (S.left src.old) (S.left src.new) (S.faults src.old) (S.faults src.new)) result.status (bytes_in result.text) }

@@ -56,6 +56,7 @@ fn dossier_answer(alloc: Global, bytes: &[u8]) -> Answer
 /// low and its cost, in minutes: no legal plan costs less than the low. Or says what is refused: too
 /// many bytes, a fault of the dossier, a ship that fits no chamber, or the first failure of the
 /// certificate.
+#[inline(never)]
 #[tactic(auto, using(crate::proofs::OpenLemmas::lower_fair, run_answers::proofs::SourceLemmas::bytes_answer, run_answers::proofs::SourceLemmas::unreadable_answers))]
 pub fn lower_answer<S: Source>(alloc: Global, src: &mut S) -> Answer
     ensures answer { AnswersSource dossier_limit AnswersLower (drained (S.left src.old) (S.left src.new) (S.faults src.old) (S.faults src.new)) result.status (bytes_in result.text) }

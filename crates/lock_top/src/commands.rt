@@ -1,4 +1,5 @@
-//! From words to the answer of the command that they mean.
+//! From words to the answer of the command that they mean. No answer is inlined here, since the frames of
+//! all commands would be added up.
 ghost use Rattle.std.specs.Prelude.{◌≡◌, map, string_bytes};
 ghost use Rattle.run_answers.specs.Sources.{drained};
 ghost use Rattle.run_answers.specs.Texts.{bad_words_text};

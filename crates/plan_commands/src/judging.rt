@@ -39,7 +39,8 @@ fn judged_text(
     Ok(text)
 }
 
-// What is said of a legal plan.
+// What is said of a legal plan. Inlined, its plan made neat would be on the stack while the text is read.
+#[inline(never)]
 #[tactic(auto, using(crate::proofs::AnswerLemmas::neat_prints))]
 fn legal_answer(alloc: Global, bytes: &[u8], instance: &Instance, plan: &Plan) -> Answer
     requires { IsLegallyPlanned bytes.now instance.now plan.now }
@@ -79,6 +80,7 @@ fn text_answer(alloc: Global, bytes: &[u8]) -> Answer
 /// the plan. Of a legal plan it answers the cost, and the report of the plan made neat from its second
 /// line on. Else it says what is refused: too many bytes, the first defect of the instance part, the
 /// first fault of the plan text, or the first break of the plan.
+#[inline(never)]
 #[tactic(auto, using(crate::proofs::AnswerLemmas::judge_fair, run_answers::proofs::SourceLemmas::bytes_answer, run_answers::proofs::SourceLemmas::unreadable_answers))]
 pub fn judge_answer<S: Source>(alloc: Global, src: &mut S) -> Answer
     ensures answer { AnswersSource plan_limit AnswersJudge (drained (S.left src.old) (S.left src.new) (S.faults src.old) (S.faults src.new)) result.status (bytes_in result.text) }

@@ -30,7 +30,9 @@ fn day_answer(alloc: Global, bytes: &[u8], instance: &Instance, plan: &Plan, day
     }
 }
 
-// What comes of playing the plan that the bytes name.
+// What comes of playing the plan that the bytes name. Inlined, its day would be on the stack while the text
+// is read.
+#[inline(never)]
 #[tactic(auto, using(crate::proofs::AnswerLemmas::play_illegal))]
 fn plan_answer(alloc: Global, bytes: &[u8], instance: &Instance, plan: &Plan) -> Answer
     requires { IsPlanned bytes.now instance.now plan.now }
@@ -56,6 +58,7 @@ fn text_answer(alloc: Global, bytes: &[u8]) -> Answer
 /// Reads an instance and a plan of it, at most 131,072 bytes together, to the source's end, and plays
 /// the plan. Of a legal plan it answers the lines of its day. Else it says what is refused, as
 /// `judge_answer` does.
+#[inline(never)]
 #[tactic(auto, using(crate::proofs::AnswerLemmas::play_fair, run_answers::proofs::SourceLemmas::bytes_answer, run_answers::proofs::SourceLemmas::unreadable_answers))]
 pub fn play_answer<S: Source>(alloc: Global, src: &mut S) -> Answer
     ensures answer { AnswersSource plan_limit AnswersPlay (drained (S.left src.old) (S.left src.new) (S.faults src.old) (S.faults src.new)) result.status (bytes_in result.text) }

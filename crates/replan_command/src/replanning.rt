@@ -107,6 +107,7 @@ fn text_answer<R: Threads + Wait + Sync, G: Gate + Sync>(
 /// Or says what is refused, the earlier cause first: too many bytes, a defect of the instance, a ship
 /// that fits no chamber, a fault of the plan text, a break of the kept lockages, or a kept lockage
 /// or a begun turn that ends after minute 1,000,000. The numbers of the options are in their ranges.
+#[inline(never)]
 #[tactic(auto, using(crate::proofs::AnswerLemmas::replan_fair, run_answers::proofs::SourceLemmas::bytes_answer, run_answers::proofs::SourceLemmas::unreadable_answers))]
 pub fn replan_answer<R: Threads + Wait + Sync, S: Source, G: Gate + Sync>(
     rt: &R,

@@ -149,6 +149,7 @@ fn dossier_answer<R: Threads + Wait + Sync, G: Gate + Sync>(
 /// 1,000,000. It answers as `solve` does, with a plan that costs at most the dossier's cost; or says
 /// what is refused: too many bytes, a fault of the dossier, a ship that fits no chamber, or the first
 /// failure of the certificate. The numbers of the options are in their ranges.
+#[inline(never)]
 #[tactic(auto, using(crate::proofs::ResumeLemmas::resume_fair, run_answers::proofs::SourceLemmas::bytes_answer, run_answers::proofs::SourceLemmas::unreadable_answers))]
 pub fn resume_answer<R: Threads + Wait + Sync, S: Source, G: Gate + Sync>(
     rt: &R,

@@ -28,6 +28,7 @@ fn lot_of(options: &LotOptions) -> Instance
 
 /// Prints the canonical text of the lot that is asked for. The numbers of the options are in their
 /// ranges.
+#[inline(never)]
 pub fn lot_answer(alloc: Global, options: &LotOptions) -> Answer
     requires { AreLotNumbers options.now }
     ensures { AnswersLot options.now.number options.now.ships options.now.chambers result.status (bytes_in result.text) }
@@ -44,6 +45,7 @@ pub fn lot_answer(alloc: Global, options: &LotOptions) -> Answer
 
 /// Searches all plans of the lot that is asked for with one worker, and answers with the first line
 /// of the report of the best one. The numbers of the options are in their ranges.
+#[inline(never)]
 pub fn trial_answer<R: Threads + Wait + Sync, G: Gate + Sync>(
     rt: &R,
     alloc: Global,

@@ -110,6 +110,7 @@ fn text_answer<R: Threads + Wait + Sync, G: Gate + Sync>(
 /// answers with the report of the best one, with its dossier where it is cheapest and one is asked
 /// for, or with its open dossier where it is left open and one is to be kept; or says what is refused: too many bytes, a defect, or a ship that fits no chamber. The numbers
 /// of the options are in their ranges.
+#[inline(never)]
 #[tactic(auto, using(crate::proofs::SolveLemmas::solve_fair, run_answers::proofs::SourceLemmas::bytes_answer, run_answers::proofs::SourceLemmas::unreadable_answers))]
 pub fn solve_answer<R: Threads + Wait + Sync, S: Source, G: Gate + Sync>(
     rt: &R,
