@@ -13,10 +13,9 @@ use Rattle.lock_rules.specs.Node.{Node}
 use Rattle.book_rules.specs.Verdict.{low_of, parked_verdict, turns_verdict, verdict_of}
 use Rattle.book_rules.specs.Ends.{HasNothingOpen, HoldsNothing, EndsWell, IsOpenLow, IsSpentBelow, IsEnd}
 use Rattle.certificate_rules.specs.Certificates.{Certificate, Stands}
-use Rattle.certificate_rules.specs.Low.{IsLow}
 use Rattle.certificate_rules.specs.WellFormed.{IsWellFormed}
 use Rattle.book_core.specs.Keeps.{IsSound}
-use Rattle.book_certificate.specs.Certified.{IsCertificateOf, certified_low, HasMoreMarks}
+use Rattle.book_certificate.specs.Certified.{IsCertificateOf, ProvesLow, certified_low, ProvesVerdict, HasMoreMarks}
 use Rattle.cert_text.specs.Dossier.{dossier, Reads}
 use Rattle.cert_text.specs.declared.heading.Form.TheVariants as form
 use Rattle.solve_commands.specs.Searching.{search_in}
@@ -60,9 +59,9 @@ module _ (b : Book) (limit : ℕ) (C : Certificate) (own : IsCertificateOf b C) 
   abbrev I : Instance
   I = b.case.instance
 
-  -- its low is that of the verdict, which is below the cost
-  kept_low : (low : ℕ) → best_cost b ≤ limit → IsOpenLow I b.best low → IsLow I C (min low (best_cost b)) → SpendsNodes (search_in b limit) C ⊎ SpendsTurns (search_in b limit) C → IsKeptCertificate (search_in b limit) C
-  kept_low low cost lower lowest cause =
+  -- it shows the low of the verdict, which is below the cost
+  kept_low : (low : ℕ) → best_cost b ≤ limit → IsOpenLow I b.best low → ProvesLow I C (min low (best_cost b)) → SpendsNodes (search_in b limit) C ⊎ SpendsTurns (search_in b limit) C → IsKeptCertificate (search_in b limit) C
+  kept_low low cost lower proves cause =
       let is = own.cost in
       let same : min low (best_cost b) ≡ low = let below = lower.below in omega (arith, below) in
       record {
@@ -70,26 +69,26 @@ module _ (b : Book) (limit : ℕ) (C : Certificate) (own : IsCertificateOf b C) 
         stands = stands;
         cost = omega (arith, cost, is);
         low = low;
-        lowest = subst (IsLow I C) same lowest;
         lower = subst (λ P. IsOpenLow I P low) (sym own.plan) lower;
+        proves = subst (ProvesLow I C) same proves;
         cause = cause;
       }
 
   -- by the verdict
-  by_verdict : (V : Verdict) → V ≢ Optimal → ((used low : ℕ) → V ≡ OpenNodes used low → b.case.nodes < length C.tree) → IsEnd I b.case.nodes b.case.turns limit b.best V → IsLow I C (certified_low (best_cost b) V) → IsKeptCertificate (search_in b limit) C
-  by_verdict Optimal left marks end lowest = absurd (left refl)
-  by_verdict (OpenNodes used low) left marks end lowest = kept_low low end.cost end.lower lowest (inl (record { more = end.more; marks = marks used low refl }))
-  by_verdict (OpenTurns chamber ships given low) left marks end lowest =
-      kept_low low end.cost end.lower lowest (inr (record {
+  by_verdict : (V : Verdict) → V ≢ Optimal → ((used low : ℕ) → V ≡ OpenNodes used low → b.case.nodes < length C.tree) → IsEnd I b.case.nodes b.case.turns limit b.best V → ProvesLow I C (certified_low (best_cost b) V) → IsKeptCertificate (search_in b limit) C
+  by_verdict Optimal left marks end proves = absurd (left refl)
+  by_verdict (OpenNodes used low) left marks end proves = kept_low low end.cost end.lower proves (inl (record { more = end.more; marks = marks used low refl }))
+  by_verdict (OpenTurns chamber ships given low) left marks end proves =
+      kept_low low end.cost end.lower proves (inr (record {
         chamber = chamber;
         ships = ships;
         named = subst (λ cost. IsSpentBelow I b.case.turns cost chamber ships) (sym own.cost) end.named;
         cheaper = λ Q legal cheaper. let is = own.cost in end.cheaper Q legal (omega (arith, cheaper, is));
       }))
 
-  pub certificate_kept : IsSound b → EndsWell limit b → verdict_of b ≢ Optimal → IsLow I C (certified_low (best_cost b) (verdict_of b)) → HasMoreMarks b C → IsKeptCertificate (search_in b limit) C
-  certificate_kept sound well left lowest more =
-      by_verdict (verdict_of b) left marks (book_ends b limit (verdict_of b) refl sound well) lowest
+  pub certificate_kept : IsSound b → EndsWell limit b → verdict_of b ≢ Optimal → ProvesVerdict b C → HasMoreMarks b C → IsKeptCertificate (search_in b limit) C
+  certificate_kept sound well left proves more =
+      by_verdict (verdict_of b) left marks (book_ends b limit (verdict_of b) refl sound well) proves
     where
       marks : (used low : ℕ) → verdict_of b ≡ OpenNodes used low → b.case.nodes < length C.tree
       marks used low is = elim well.left [

@@ -67,8 +67,8 @@ kept_wider k limit text less printed =
         stands = kept.stands;
         cost = omega (arith, cost, less);
         low = kept.low;
-        lowest = kept.lowest;
         lower = kept.lower;
+        proves = kept.proves;
         cause = elim kept.cause [
           | inl nodes ↦ let more = nodes.more in inl (record { more = omega (arith, more, cheap-grows k.instance k.limit limit less 0 root_lines); marks = nodes.marks })
           | inr turns ↦ inr (record { chamber = turns.chamber; ships = turns.ships; named = turns.named; cheaper = turns.cheaper })

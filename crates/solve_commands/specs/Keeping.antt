@@ -5,9 +5,8 @@ use Rattle.lock_rules.specs.Plan.{IsLegal, cost_of}
 use Rattle.lock_rules.specs.Node.{root_lines}
 use Rattle.lock_rules.specs.Cheap.{cheap_nodes}
 use Rattle.book_rules.specs.Ends.{IsOpenLow, IsSpentBelow, IsUnderSpent}
-use Rattle.book_certificate.specs.Certified.{IsCertificateOf}
+use Rattle.book_certificate.specs.Certified.{IsCertificateOf, ProvesLow}
 use Rattle.certificate_rules.specs.Certificates.{Certificate, Stands}
-use Rattle.certificate_rules.specs.Low.{IsLow}
 use Rattle.certificate_rules.specs.WellFormed.{IsWellFormed}
 use Rattle.cert_text.specs.Dossier.{dossier, Reads}
 use Rattle.plan_print.specs.Report.{report}
@@ -26,14 +25,14 @@ pub record SpendsTurns (k : Search) (C : Certificate) : Type 0 where
   pub named : IsSpentBelow k.instance k.turns C.cost chamber ships
   pub cheaper : (Q : Plan) → IsLegal k.instance Q → cost_of k.instance Q < C.cost → IsUnderSpent k.instance k.turns Q
 
--- The certificate stands and costs at most the search's limit, its low is below its cost and no legal plan costs less than the low, and the nodes or the turns of the search were spent.
+-- The certificate stands and costs at most the search's limit, no legal plan costs less than a low below its cost, which it shows itself, and the nodes or the turns of the search were spent. Its leaves may show more, up to its cost.
 pub record IsKeptCertificate (k : Search) (C : Certificate) : Type 0 where
   pub formed : IsWellFormed k.instance C
   pub stands : Stands k.instance C
   pub cost : C.cost ≤ k.limit
   pub low : ℕ
-  pub lowest : IsLow k.instance C low
   pub lower : IsOpenLow k.instance C.plan low
+  pub proves : ProvesLow k.instance C low
   pub cause : SpendsNodes k C ⊎ SpendsTurns k C
 
 -- A search ended, and the open dossier of its own certificate is printed: its best plan, all its cuts and prices, and the marks of all slots. It is read back as the same two.
