@@ -1,4 +1,4 @@
-//! Certificates whose root is closed by a sweep, made by hand.
+//! Certificates whose root is closed by a sweep, or left open, made by hand.
 
 use crate::fixture::{alone, narrow, one_after_the_other};
 use cert_check::{Answer, FailurePlace, Reason, check};
@@ -106,6 +106,29 @@ fn a_sweep_stands_at_the_root_by_prices_that_are_there(rt: HostRuntime) -> Resul
         let told = narrow_answer(rt.alloc(), both_cut(rt.alloc())?, &[8500, 8500], &marks)?;
         assert!(rt; told == answer);
     }
+    Ok(())
+}
+
+// By 8400 each the least of a line is 3500 - 8400, and 16800 - 4900 reaches 119; the bound is 70.
+#[test]
+fn an_open_root_shows_what_its_bound_or_its_prices_show(rt: HostRuntime) -> Result<(), Fail> {
+    for (prices, mark, low) in [
+        ([8400, 8400], Mark::Open, 70),
+        ([8400, 8400], Mark::OpenPriced(0), 119),
+        ([8500, 8500], Mark::OpenPriced(0), 120),
+        ([0, 0], Mark::OpenPriced(0), 70),
+    ] {
+        let told = narrow_answer(rt.alloc(), both_cut(rt.alloc())?, &prices, &[mark])?;
+        assert!(rt; told == Answer::Stands { low, cost: 120 });
+    }
+    Ok(())
+}
+
+#[test]
+fn an_open_root_names_prices_that_are_there(rt: HostRuntime) -> Result<(), Fail> {
+    let marks = [Mark::OpenPriced(1)];
+    let told = narrow_answer(rt.alloc(), both_cut(rt.alloc())?, &[8500, 8500], &marks)?;
+    assert!(rt; told == wrong_at(0));
     Ok(())
 }
 
