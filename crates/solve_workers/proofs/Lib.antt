@@ -13,3 +13,4 @@ pub mod ReadyLemmas
 pub mod SettleLemmas
 pub mod PriceLemmas
 pub mod DeskLemmas
+pub mod ShowingLemmas

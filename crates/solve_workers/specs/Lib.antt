@@ -6,3 +6,4 @@ pub mod Offering
 pub mod Closable
 pub mod Opening
 pub mod Settling
+pub mod Showing

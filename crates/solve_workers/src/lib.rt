@@ -34,6 +34,7 @@ mod driving;
 mod ending;
 mod hardness;
 mod held;
+mod lows;
 mod offering;
 mod opening;
 mod pricing;

@@ -33,8 +33,8 @@ fn are_prices(prices: &Prices)
     let _ = prices.as_slice();
 }
 
-// The number of prices that the book has kept.
-fn number_in(reply: &Reply) -> Option<u64> {
+/// The number of prices that the book has kept.
+pub(crate) fn number_in(reply: &Reply) -> Option<u64> {
     match reply {
         Reply::Priced(number) => Some(*number),
         _ => None,
