@@ -16,9 +16,10 @@ use price_raise::Stands;
 use price_terms::{Limits, LooseLines, PriceError, Prices};
 use std::alloc::Global;
 
-/// The limits of the tables that a search works out: some five milliseconds for a chamber.
+/// The limits of the tables that a search works out. Where a chamber takes six of twenty ships of one way
+/// there are 60,000 groups, and without prices such a search closes nothing and knows no low.
 pub const LIMITS: Limits = Limits {
-    groups: 20_000,
+    groups: 200_000,
     turns: 400_000,
 };
 
