@@ -1,9 +1,8 @@
 -- What `lower` answers to the bytes of an open dossier.
-use Rattle.std.proofs.Common.{ℕ, ◌≡◌, ◌≢◌, ◌≤◌, List, ◌∷◌, sym, subst, inl, inr, arith}
+use Rattle.std.proofs.Common.{ℕ, ◌≡◌, ◌≢◌, ◌≤◌, List, sym, subst, inl, inr, arith}
 use Rattle.std.proofs.lemmas.Bool.Decides.{leb_tells}
 use Rattle.lock_model.specs.declared.instance.Instance.{Instance}
 use Rattle.certificate_rules.specs.Certificates.{Certificate}
-use Rattle.closing_rules.proofs.BelowLemmas.{least-below}
 use Rattle.run_answers.specs.Sources.{IsFair}
 use Rattle.run_answers.proofs.EndedLemmas.{refused_ended}
 use Rattle.run_answers.specs.declared.status.Status.{Status}
@@ -20,11 +19,7 @@ lowers_none bytes s text none = refused_ended (PrintsEqual bytes text) (PrintsGa
 
 -- its low is at most its cost
 low_at_most : (I : Instance) (C : Certificate) (low : ℕ) → HasLow I C low → low ≤ C.cost
-low_at_most I C low has =
-    let lowest = has.lowest in
-    let is = lowest.least in
-    let below = least-below C.cost (C.cost ∷ lowest.bounds) (inl (omega arith)) in
-    omega (arith, is, below)
+low_at_most I C low has = let lowest = has.lowest in lowest.most
 
 pub equal_answers : (bytes : List ℕ) (I : Instance) (C : Certificate) (low cost : ℕ) (text : List ℕ) → IsStanding bytes I C → HasLow I C low → cost ≡ C.cost → low ≡ cost → text ≡ lower_text low cost → PrintsEqual bytes text
 equal_answers bytes I C low cost text standing has is same shown =
