@@ -8,10 +8,11 @@ use Rattle.lock_model.specs.declared.plan.Plan.{Plan}
 use Rattle.lock_rules.specs.Plan.{cost_of}
 use Rattle.closing_rules.specs.declared.grounds.Ground.{Ground}
 use Rattle.closing_rules.specs.declared.grounds.Ground.TheVariants as by
+use Rattle.book_rules.specs.declared.book.ShownLow.{ShownLow}
 use Rattle.book_rules.specs.Tests.{has_clash, is_own_cut}
-use Rattle.book_rules.specs.Book.{Book, Case, first_slot, has_slot, is_held, is_held_by, is_back, group_at, slot_at, best_cost}
+use Rattle.book_rules.specs.Book.{Book, Case, first_slot, has_slot, is_held, is_held_by, is_back, is_live, group_at, slot_at, best_cost}
 use Rattle.book_rules.specs.Cheap.{opening_cost}
-use Rattle.book_rules.specs.Events.{Event, Reply, IsOwed, take, split, close, post, post_prices, close_price, close_swept, park, replace, release}
+use Rattle.book_rules.specs.Events.{Event, Reply, IsOwed, take, split, close, post, post_prices, close_price, close_swept, show_low, park, replace, release}
 use Rattle.book_rules.specs.Events.{Replaced, Ended, NodesSpent, Idle, Done, NotHeld, Whole, OtherDeck, OtherPrices, NotCheaper, Clashes}
 use Rattle.book_rules.specs.NextSlot.{next_fresh}
 use Rattle.book_rules.specs.Room.{room_of}
@@ -54,6 +55,10 @@ module _ {Break : Type 0} (broken : Instance → Plan → Option Break) (b : Boo
   close-ended id why (Some r) = refl
   close-ended id why None = refl
 
+  low-ended : (id : ℕ) (low : ShownLow) (o : Option (Reply Break)) → Remains (Step.show_unless b id low o)
+  low-ended id low (Some r) = refl
+  low-ended id low None = refl
+
   group-ended : (id c p : ℕ) (deck : Deck) (turns : ℕ) (o : Option Group) → Remains (Step.park_group b id c p deck turns o)
   group-ended id c p deck turns None = refl
   group-ended id c p deck turns (Some g) =
@@ -79,6 +84,10 @@ module _ {Break : Type 0} (broken : Instance → Plan → Option Break) (b : Boo
   ended-stays (close_swept id number swept) is =
       let refusal = Step.sweep_refusal b id number swept (slice_get b.prices number) in
       keep_or (not (Step.may_close b id)) (NotHeld id) (Step.close_unless b id (by.Swept number) refusal) (close-ended id (by.Swept number) refusal)
+  ended-stays (show_low id number shown) is =
+      let low : ShownLow = record { prices = number; cost = shown.cost } in
+      let refusal = Step.low_refusal b id number shown (slice_get b.prices number) in
+      keep_or (not (is_live (slot_at b id).state)) (NotHeld id) (Step.show_unless b id low refusal) (low-ended id low refusal)
   ended-stays (park id c p deck turns) is =
       keep_or (not (is_held (slot_at b id).state)) (NotHeld id) (Step.park_group b id c p deck turns (group_at (slot_at b id).node c p)) (group-ended id c p deck turns (group_at (slot_at b id).node c p))
   ended-stays (replace plan) is = replace-ended plan (broken b.case.instance plan)
