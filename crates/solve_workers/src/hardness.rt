@@ -10,6 +10,7 @@ ghost use Rattle.solve_workers.specs.Opening.{IsReady};
 use crate::cut_list::CutList;
 use crate::driver::Driver;
 use crate::driving::{drive_some, finish};
+use crate::lows::show_lows;
 use crate::offering::post_free;
 use crate::opening::opened;
 use crate::searching::{Lent, worked};
@@ -164,8 +165,8 @@ fn priced_by_all<R: Threads + Wait + Sync, G: Gate + Sync>(
     settled(lent.alloc, left, lent.case, opening, best, &none)
 }
 
-// Searches a book with prices as far as several workers serve: the root on this thread, and then all
-// else by them, who begin with the prices of the root.
+// Searches a book with prices: the root on this thread, and then, where several workers serve, all else
+// by them, who begin with the prices of the root.
 #[tactic(auto, using(crate::proofs::ReadyLemmas::ready_driven, crate::proofs::DrivenLemmas::own_still))]
 fn priced<R: Threads + Wait + Sync, G: Gate + Sync>(
     lent: &Lent<'_, R, G>,
@@ -180,10 +181,9 @@ fn priced<R: Threads + Wait + Sync, G: Gate + Sync>(
 {
     let first = first_node(lent.case, lent.workers);
     driver.pricing = first_pricing(lent.alloc, &book, first);
-    if lent.workers == 1 {
-        return Ok(book);
-    }
-    if drive_some(driver, &mut book, 1)? {
+    let is_done = drive_some(driver, &mut book, 1)?;
+    driver.keep_root();
+    if is_done || lent.workers == 1 {
         return Ok(book);
     }
     let pricing = mem::replace(&mut driver.pricing, None);
@@ -215,8 +215,9 @@ fn begun<R: Threads + Wait + Sync, G: Gate + Sync>(
 
 /// Drives the search of a book to its end. An instance that is hard without prices is searched from the
 /// start with prices, with the best plan and the cuts that were found, by the
-/// workers first where there are several. All else is done on this thread. Refuses want of memory alone.
-#[tactic(auto, using(crate::proofs::OpeningLemmas::ends_within))]
+/// workers first where there are several. All else is done on this thread. At the end it is shown of the
+/// slots that are left what the root reaches by its prices. Refuses want of memory alone.
+#[tactic(auto, using(crate::proofs::OpeningLemmas::ends_within, crate::proofs::ShowingLemmas::shown_ends))]
 pub(crate) fn driven<R: Threads + Wait + Sync, G: Gate + Sync>(
     lent: &Lent<'_, R, G>,
     book: Book,
@@ -230,5 +231,8 @@ pub(crate) fn driven<R: Threads + Wait + Sync, G: Gate + Sync>(
     let mut driver = Driver::new(lent.alloc, Search::new(&case.instance, case.turns));
     let mut book = begun(lent, &mut driver, book, cost)?;
     finish(&mut driver, &mut book)?;
+    if let Some(prices) = &driver.root {
+        show_lows(lent.alloc, &mut book, case, prices);
+    }
     Ok(book)
 }

@@ -19,11 +19,13 @@
 //!   `held` takes it, `working` asks `node_work` what becomes of it, and `ending` makes it so. One that
 //!   would be split is priced first, once there are prices (`pricing`): that is `price` of `price_search`, at
 //!   the desk that the book in the driver's hand is (`offering`).
+//! - At the end the caller shows of the slots that are left what the root reaches by its prices (`lows`).
 //!
 //! Definitions: `book_rules` says how a search ends well (`specs/Ends`) and what events change;
 //! here `specs/Driving` (events of the driver), `Holding` and `Holds` (what it holds, and what it
 //! has tidied), `Offering` (what it makes of a book while prices are asked), `Closable` (how a held node may end), `Opening` (a book that was just opened),
-//! `Settling` (what the caller tests, and a book that is freed), `Told` (what replies tell).
+//! `Settling` (what the caller tests, and a book that is freed), `Showing` (a book of which costs are
+//! shown), `Told` (what replies tell).
 #![tactic(auto)]
 
 mod comparing;
