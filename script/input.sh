@@ -97,6 +97,22 @@ place_of() {
 # the number of the first line whose words are the one word `end`
 end_of_instance() { awk '{ sub(/\r$/, ""); sub(/#.*/, "") } NF == 1 && $1 == "end" { print NR; exit }' "$input"; }
 
+# Of a day of more than 24 ships the program's own number of steps may take hours: where none is given, the search gets as many as
+# end after about a minute.
+take_nodes() {
+  local ships
+  [ -n "$input" ] && [ -z "$wrong" ] && [[ " $(options_of "$command") " == *" --nodes "* ]] || return 0
+  [[ " ${program_words[*]} " != *" --nodes"[=\ ]* ]] && ! has_word -- || return 0
+  ships=$(ships_in "$input")
+  if [ "$ships" -gt 48 ]; then
+    program_words+=(--nodes 1500)
+  elif [ "$ships" -gt 24 ]; then
+    program_words+=(--nodes 4000)
+  fi
+}
+
+ships_in() { awk '{ sub(/\r$/, ""); sub(/#.*/, "") } $1 == "ship" { ships++ } NF == 1 && $1 == "end" { exit } END { print ships + 0 }' "$1"; }
+
 # a warning, never a refusal
 warn_of_sizes() {
   local line text

@@ -290,6 +290,26 @@ rows stood_in <<'ROWS'
 137 | none | the program ended with status 137
 ROWS
 
+# How many steps the search gets where none are given: another stand-in says its words.
+printf '#!/usr/bin/env bash\necho "$*"\n' >"$room/echo_words"
+chmod +x "$room/echo_words"
+sed 's/^glock 2/glock 3/; /^end/d' "$room/day-40.lock" >"$room/day-50.lock"
+for ((i = 41; i <= 50; i++)); do echo "ship more$i up 500 60 $i 3"; done >>"$room/day-50.lock"
+echo end >>"$room/day-50.lock"
+echoes() {
+  GLOCK_PROGRAM=$room/echo_words call $1
+  check "the words of: $1" [ "$out" = "$2" ]
+}
+rows echoes <<'ROWS'
+solve evening.lock | solve
+solve day-40.lock | solve --nodes 4000
+solve day-50.lock --workers 1 | solve --workers 1 --nodes 1500
+solve day-50.lock --nodes=7 | solve --nodes=7
+solve --nodes 7 day-40.lock | solve --nodes 7
+replan day-40.lock evening.plan --from 3 | replan --from 3 --nodes 4000
+judge day-40.lock evening.plan | judge
+ROWS
+
 # A full disk or a reader that is gone is a write fault.
 (cd "$room" && "$top/glock" solve evening.lock >/dev/full 2>err)
 status=$? out= err=$(<"$room/err")
