@@ -1,5 +1,5 @@
 -- A book of which costs are shown ends as well as before.
-use Rattle.std.proofs.Common.{◌≡◌, ℕ, ◌⊎◌, List, length, inl, inr, refl, sym, ap, ◌∙◌, subst, arith, Bool, true, false, not, cond, nat_eq, Some, None, slice_get}
+use Rattle.std.proofs.Common.{◌≡◌, ℕ, ◌≤◌, ◌⊎◌, List, length, inl, inr, refl, sym, ap, ◌∙◌, subst, arith, Bool, true, false, not, cond, nat_eq, Some, None, slice_get}
 use Rattle.std.specs.declared.option.Option.{Option}
 use Rattle.std.proofs.lemmas.List.{length-set}
 use Rattle.lock_rules.specs.Plan.{cost_of}
@@ -17,6 +17,7 @@ use Rattle.book_rules.proofs.TurnLemmas.{low-at}
 use Rattle.book_core.specs.declared.reply.Reply.{Reply}
 use Rattle.book_core.specs.Replies.{Does, Steps, Stays}
 use Rattle.solve_workers.specs.Showing.{IsOnlyShown}
+use Rattle.solve_workers.proofs.OpeningLemmas.{ends_within}
 use Rattle.solve_workers.proofs.ToldLemmas.{Answer}
 
 abbrev Out : Type 0
@@ -75,7 +76,7 @@ module _ (b : Book) where
 
 -- THE BOOK ENDS AS WELL AS BEFORE.
 module _ (old new : Book) (only : IsOnlyShown old new) where
-  pub shown_opening : opening_cost new ≡ opening_cost old
+  shown_opening : opening_cost new ≡ opening_cost old
   shown_opening = λ j. cost_of (only.case j).instance (only.opening j)
 
   best-same : best_cost new ≡ best_cost old
@@ -95,7 +96,7 @@ module _ (old new : Book) (only : IsOnlyShown old new) where
     fresh = only.states spent.id ∙ spent.fresh;
   })
 
-  pub shown_ends : (limit : ℕ) → EndsWell limit old → EndsWell limit new
+  shown_ends : (limit : ℕ) → EndsWell limit old → EndsWell limit new
   shown_ends limit ends = record {
     free = still is_held ends.free;
     opening = let most = ends.opening in omega (arith, most, shown_opening);
@@ -104,3 +105,7 @@ module _ (old new : Book) (only : IsOnlyShown old new) where
     };
     left = still-done ends.left;
   }
+
+-- and with a higher limit
+pub shown_within : (low high : ℕ) (old new : Book) → low ≤ high → IsOnlyShown old new → EndsWell low old → EndsWell high new
+shown_within low high old new less only ends = ends_within low high new less (shown_ends old new only low ends)

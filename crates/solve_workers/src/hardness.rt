@@ -6,6 +6,7 @@ ghost use Rattle.solve_workers.specs.Closable.{IsOwnSearch};
 ghost use Rattle.solve_workers.specs.Driving.{IsDriven};
 ghost use Rattle.solve_workers.specs.Holding.{IsRunning};
 ghost use Rattle.solve_workers.specs.Opening.{IsReady};
+ghost use Rattle.solve_workers.specs.Showing.{IsOnlyShown};
 
 use crate::cut_list::CutList;
 use crate::driver::Driver;
@@ -213,11 +214,22 @@ fn begun<R: Threads + Wait + Sync, G: Gate + Sync>(
     priced(lent, driver, again, cost)
 }
 
+// Shows of the slots that are left what the root reaches by its prices, where it was priced.
+#[tactic(auto, using(crate::proofs::ShowingLemmas::shown_none))]
+fn show_root(driver: &Driver<'_>, book: &mut Book, case: &Case)
+    requires { book.old.case ≡ case.now }
+    ensures { IsOnlyShown book.old book.new }
+{
+    if let Some(prices) = &driver.root {
+        show_lows(driver.alloc, book, case, prices);
+    }
+}
+
 /// Drives the search of a book to its end. An instance that is hard without prices is searched from the
 /// start with prices, with the best plan and the cuts that were found, by the
 /// workers first where there are several. All else is done on this thread. At the end it is shown of the
 /// slots that are left what the root reaches by its prices. Refuses want of memory alone.
-#[tactic(auto, using(crate::proofs::OpeningLemmas::ends_within, crate::proofs::ShowingLemmas::shown_ends))]
+#[tactic(auto, using(crate::proofs::ShowingLemmas::shown_within))]
 pub(crate) fn driven<R: Threads + Wait + Sync, G: Gate + Sync>(
     lent: &Lent<'_, R, G>,
     book: Book,
@@ -231,8 +243,6 @@ pub(crate) fn driven<R: Threads + Wait + Sync, G: Gate + Sync>(
     let mut driver = Driver::new(lent.alloc, Search::new(&case.instance, case.turns));
     let mut book = begun(lent, &mut driver, book, cost)?;
     finish(&mut driver, &mut book)?;
-    if let Some(prices) = &driver.root {
-        show_lows(lent.alloc, &mut book, case, prices);
-    }
+    show_root(&driver, &mut book, case);
     Ok(book)
 }
