@@ -1,5 +1,5 @@
 -- What groups are charged: fewer ships no more, and where groups have each ship once, for each triple at most once.
-use Rattle.std.proofs.Common.{◌≡◌, ℕ, ◌+◌, ◌*◌, ◌<◌, ◌≤◌, Bool, true, false, ◌&&◌, ◌||◌, cond, List, [], ◌∷◌, length, map, All, sum_by, inl, inr, refl, ap, arith}
+use Rattle.std.proofs.Common.{◌≡◌, ℕ, ◌+◌, ◌*◌, ◌<◌, ◌≤◌, Bool, true, false, ◌&&◌, ◌||◌, cond, List, [], ◌∷◌, length, map, All, sum_by, filter, nat_eq, inl, inr, refl, ap, arith}
 use Rattle.std.proofs.lemmas.Bool.Decides.{leb_tells}
 use Rattle.std.proofs.lemmas.List.Sums.{sum_by-cons}
 use Rattle.std.proofs.lemmas.List.Elements.{All-head, All-tail}
@@ -149,6 +149,27 @@ charged-parts prices some others all each = parts prices.triples
 pub charged-fewer : (prices : PriceList) (few all : List ℕ) → ((s : ℕ) → one (has_number few s) ≤ one (has_number all s)) → charged_on prices few ≤ charged_on prices all
 charged-fewer prices few all each =
     omega (arith, charged-parts prices (has_number few) (λ s. false) (has_number all) (λ s. omega (arith, each s)))
+
+-- some of the ships have no other ship
+filter-has : (p : ℕ → Bool) (xs : List ℕ) (s : ℕ) → one (has_number (filter p xs) s) ≤ one (has_number xs s)
+filter-has p [] s = omega arith
+filter-has p (x ∷ xs) s =
+    elim (p x) as (λ b. one (has_number (cond b (x ∷ filter p xs) (filter p xs)) s) ≤ one (has_number (x ∷ xs) s)) [
+      | true ↦ both (nat_eq x s) (has_number (filter p xs) s) (has_number xs s) (filter-has p xs s)
+      | false ↦ more (nat_eq x s) (has_number (filter p xs) s) (has_number xs s) (filter-has p xs s)
+    ]
+  where
+    both : (e a b : Bool) → one a ≤ one b → one (e || a) ≤ one (e || b)
+    both true a b less = omega arith
+    both false a b less = less
+
+    more : (e a b : Bool) → one a ≤ one b → one a ≤ one (e || b)
+    more true true b less = omega arith
+    more true false b less = omega arith
+    more false a b less = less
+
+pub charged-filter : (prices : PriceList) (p : ℕ → Bool) (ships : List ℕ) → charged_on prices (filter p ships) ≤ charged_on prices ships
+charged-filter prices p ships = charged-fewer prices (filter p ships) ships (filter-has p ships)
 
 module _ (I : Instance) (P : Plan) (legal : IsLegal I P) where
   -- the lockages of a legal plan have each ship at most once
