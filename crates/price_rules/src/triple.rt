@@ -5,7 +5,7 @@ pub const TRIPLES: usize = 255;
 
 /// Three ships by number, and the price of their triple, in hundredths of a minute of flow time. A group
 /// has it where at least two of its ships are among the three: at most one lockage of a legal plan.
-#[derive(Clone, Copy, PartialEq, Eq)]
+#[derive(Clone, Copy, PartialEq, Eq, Default)]
 pub struct Triple {
     pub first: u8,
     pub second: u8,
