@@ -182,7 +182,7 @@ module _ (L : LineAsk) where
       allowed = All-weaker (λ s. s < length I.ships) (λ s. (has_number (first_ships I k) s ≡ true) ⊎ (s < length I.ships)) (λ s h. inr h) g.ships uncut.known;
     }
 
-  module _ (sets : List (List ℕ)) (are : AreForbidden I c cuts sets) (to : Option ℕ) (ceilings : List ℕ) (below : AreBelow prices ceilings) (list : GrownList) (grown : IsGrownList (group_ask I c k ceilings sets) list) where
+  module _ (sets : List (List ℕ)) (are : AreForbidden I c cuts sets) (to : Option ℕ) (ceilings : PriceList) (below : AreBelow prices ceilings) (list : GrownList) (grown : IsGrownList (group_ask I c k ceilings sets) list) where
     abbrev groups : List GrownGroup
     groups = list.groups.items
 
