@@ -35,7 +35,7 @@ use Rattle.book_rules.specs.Step
 use Rattle.book_rules.specs.Cover.{IsCovered, IsGoodSlot, IsOwnCut, KeepsBook}
 use Rattle.closing_rules.specs.ProvedCuts.{CertCut, IsProved}
 use Rattle.closing_rules.specs.Laws.{TreeLaws}
-use Rattle.price_rules.specs.Prices.{CutHolds}
+use Rattle.price_rules.specs.Prices.{PriceList, CutHolds}
 use Rattle.closing_rules.specs.ListedPrices.{ArePrices, AreShapedPrices, cut_in}
 use Rattle.book_rules.specs.States.{IsHitBy, cuts_in}
 use Rattle.book_rules.proofs.TestLemmas.{is_own_cut-decides}
@@ -334,7 +334,7 @@ module _ {Break : Type 0} (broken : Instance → Plan → Option Break) (sound :
     covers = record { legal = old.covers.legal; covered = old.covers.covered };
   }
 
-  priced-keeps : (prices : List ℕ) → ArePrices prices → nat_eq (length prices) (length I.ships) ≡ true → KeepsBook (Step.priced {Break = Break} b prices).0
+  priced-keeps : (prices : PriceList) → ArePrices prices → nat_eq (length prices) (length I.ships) ≡ true → KeepsBook (Step.priced {Break = Break} b prices).0
   priced-keeps prices good own = record {
     slots = old.slots;
     cuts = old.cuts;

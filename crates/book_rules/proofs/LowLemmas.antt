@@ -8,6 +8,7 @@ use Rattle.lock_model.specs.declared.plan.Plan.{Plan}
 use Rattle.lock_rules.specs.Plan.{cost_of}
 use Rattle.lock_rules.specs.Node.{Node as TreeNode, root}
 use Rattle.lock_rules.specs.Children.{children_of}
+use Rattle.price_rules.specs.Prices.{PriceList}
 use Rattle.refute_rules.specs.Cuts.{Cut}
 use Rattle.price_rules.proofs.ReachLemmas.{reached-stays}
 use Rattle.book_rules.specs.declared.book.Entry.{Entry}
@@ -26,14 +27,14 @@ use Rattle.book_rules.proofs.StateLemmas.{get-more, cuts-among}
 use Rattle.book_rules.proofs.TallyLemmas.{Kept, Closed, outdone-is}
 
 -- nothing is shown of new slots
-children-lows : (I : Instance) (cuts : List Cut) (prices : List (List ℕ)) (cost parent depth number : ℕ) (ls : List (List (List Group))) → All (HasTrueLow I cuts prices) (Step.child_slots I cost parent depth number ls)
+children-lows : (I : Instance) (cuts : List Cut) (prices : List PriceList) (cost parent depth number : ℕ) (ls : List (List (List Group))) → All (HasTrueLow I cuts prices) (Step.child_slots I cost parent depth number ls)
 children-lows I cuts prices cost parent depth number [] = All-nil (HasTrueLow I cuts prices)
 children-lows I cuts prices cost parent depth number (l ∷ ls) =
     let node : TreeNode = record { depth = depth; lines = l } in
     All-cons (HasTrueLow I cuts prices) (new_slot I cost parent number node) (Step.child_slots I cost parent depth (suc number) ls) tt (children-lows I cuts prices cost parent depth (suc number) ls)
 
 -- with more cuts
-more-reached : (I : Instance) (cuts more : List Cut) (prices : List (List ℕ)) (node : TreeNode) (o : Option ShownLow) → IsReachedLow I cuts prices node o → IsReachedLow I (cuts ++ more) prices node o
+more-reached : (I : Instance) (cuts more : List Cut) (prices : List PriceList) (node : TreeNode) (o : Option ShownLow) → IsReachedLow I cuts prices node o → IsReachedLow I (cuts ++ more) prices node o
 more-reached I cuts more prices node None h = h
 more-reached I cuts more prices node (Some low) h = record {
   own = h.own;
@@ -46,7 +47,7 @@ priced-reached : (I : Instance) (cuts : List Cut) (prices more : List (List ℕ)
 priced-reached I cuts prices more node None h = h
 priced-reached I cuts prices more node (Some low) h = record { own = h.own; there = get-more prices more low.prices h.own h.there; reached = h.reached }
 
-outdone-low : (I : Instance) (cuts : List Cut) (prices : List (List ℕ)) (cost : ℕ) (s : Slot) → HasTrueLow I cuts prices s → HasTrueLow I cuts prices (Step.outdone cost s)
+outdone-low : (I : Instance) (cuts : List Cut) (prices : List PriceList) (cost : ℕ) (s : Slot) → HasTrueLow I cuts prices s → HasTrueLow I cuts prices (Step.outdone cost s)
 outdone-low I cuts prices cost s h =
     elim (outdone-is cost s) [
       | Kept e same ↦ subst (HasTrueLow I cuts prices) (sym same) h
@@ -78,7 +79,7 @@ module _ {Break : Type 0} (broken : Instance → Plan → Option Break) (b : Boo
     lows = All-weaker IsTrue (HasTrueLow b.case.instance (b.cuts ++ cut ∷ []) b.prices) (λ s h. more-reached b.case.instance b.cuts (cut ∷ []) b.prices s.node s.shown h) b.slots keeps.lows;
   }
 
-  priced-lows : (prices : List ℕ) → KeepsLows b → KeepsLows (Step.noted (record b { prices = b.prices ++ prices ∷ [] }) entry.Prices)
+  priced-lows : (prices : PriceList) → KeepsLows b → KeepsLows (Step.noted (record b { prices = b.prices ++ prices ∷ [] }) entry.Prices)
   priced-lows prices keeps = record {
     lows = All-weaker IsTrue (HasTrueLow b.case.instance b.cuts (b.prices ++ prices ∷ [])) (λ s h. priced-reached b.case.instance b.cuts b.prices (prices ∷ []) s.node s.shown h) b.slots keeps.lows;
   }

@@ -13,6 +13,7 @@ use Rattle.lock_model.specs.declared.group.Group.{Group}
 use Rattle.lock_model.specs.declared.plan.Plan.{Plan}
 use Rattle.lock_rules.specs.Plan.{cost_of}
 use Rattle.lock_rules.specs.Node.{line_at}
+use Rattle.price_rules.specs.Prices.{PriceList}
 use Rattle.refute_rules.specs.Spots.{IsSpent}
 use Rattle.refute_rules.specs.Cuts.{Cut, IsCut}
 use Rattle.refute_rules.proofs.ListingLemmas.{spent-fewer}
@@ -84,7 +85,7 @@ pub data IsMove {Break : Type 0} (b : Book) (e : Event) (out : Book × Reply Bre
   Parks : (w id c p : ℕ) → IsAt b id (slot.Held w) → TellsAt b id (slot.Parked c p) → out.0 ≡ turned b id (slot.Parked c p) b.used b.ended (entry.Park id c p) → IsMove b e out
   Shows : (id : ℕ) (low : ShownLow) → is_growing e ≡ true → MayShow b id low → out.0 ≡ Step.low_shown b id low → IsMove b e out
   Posts : (cut : Cut) → is_growing e ≡ true → IsCut cut → IsOwnCut b.case.instance cut → out.0 ≡ Step.noted (record b { cuts = b.cuts ++ cut ∷ [] }) entry.Post → IsMove b e out
-  Prices : (prices : List ℕ) → is_growing e ≡ true → ArePrices prices → AreShapedPrices b.case.instance prices → out.0 ≡ Step.noted (record b { prices = b.prices ++ prices ∷ [] }) entry.Prices → IsMove b e out
+  Prices : (prices : PriceList) → is_growing e ≡ true → ArePrices prices → AreShapedPrices b.case.instance prices → out.0 ≡ Step.noted (record b { prices = b.prices ++ prices ∷ [] }) entry.Prices → IsMove b e out
   Replaces : (plan : Plan) → is_growing e ≡ true → cost_of b.case.instance plan < best_cost b → out.0 ≡ Step.replaced b plan → IsMove b e out
   Ends : (w : ℕ) → IsRunning b w → HoldsNone b w → out.0 ≡ Step.noted (record b { ended = slice_set b.ended w true }) (entry.Release w) → IsMove b e out
   GivesBack : (w id : ℕ) → IsRunning b w → IsAt b id (slot.Held w) → out.0 ≡ turned b id slot.Back b.used (slice_set b.ended w true) (entry.Release w) → IsMove b e out

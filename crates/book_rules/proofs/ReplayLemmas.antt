@@ -12,6 +12,7 @@ use Rattle.lock_model.specs.declared.instance.Instance.{Instance}
 use Rattle.lock_model.specs.declared.group.Group.{Group}
 use Rattle.lock_model.specs.declared.plan.Plan.{Plan}
 use Rattle.lock_rules.specs.Node.{line_at}
+use Rattle.price_rules.specs.Prices.{PriceList}
 use Rattle.refute_rules.specs.Cuts.{Cut}
 use Rattle.book_rules.specs.declared.book.Entry.{Entry}
 use Rattle.book_rules.specs.declared.book.ShownLow.{ShownLow}
@@ -137,12 +138,12 @@ module _ {Break : Type 0} (broken : Instance → Plan → Option Break) where
       ap (λ t. cond t (Some (Cheaper best best)) None) same
 
   -- the book's own closing isn't refused
-  own-unrefused : (b : Book) (id number : ℕ) (prices : List ℕ) → slice_get b.prices number ≡ Some prices → Step.price_refusal {Break = Break} b id number (own_shown b id number (best_cost b)) (Some prices) ≡ None
+  own-unrefused : (b : Book) (id number : ℕ) (prices : PriceList) → slice_get b.prices number ≡ Some prices → Step.price_refusal {Break = Break} b id number (own_shown b id number (best_cost b)) (Some prices) ≡ None
   own-unrefused b id number prices there =
       let best = best_cost b in
       ap (λ t. cond (not t) (Some NotShown) (Step.cheaper_than best best)) (own-shown b id number prices there best) ∙ best-unrefused best
 
-  own_swept-unrefused : (b : Book) (number : ℕ) (prices : List ℕ) → Step.sweep_by_prices {Break = Break} b number (own_swept b) (Some prices) ≡ None
+  own_swept-unrefused : (b : Book) (number : ℕ) (prices : PriceList) → Step.sweep_by_prices {Break = Break} b number (own_swept b) (Some prices) ≡ None
   own_swept-unrefused b number prices =
       let best = best_cost b in
       ap (λ t. cond (not t) (Some NotSwept) (Step.cheaper_than best best)) (own-swept b) ∙ best-unrefused best

@@ -6,12 +6,12 @@ use Rattle.std.proofs.lemmas.Bool.{and_parts, and_from, false≢true}
 use Rattle.std.proofs.lemmas.Bool.Decides.{Decides-eqb}
 use Rattle.std.proofs.lemmas.List.Elements.{All-cons, All-nil, All-weaker}
 use Rattle.lock_model.specs.declared.instance.Instance.{Instance}
-use Rattle.price_rules.specs.Prices.{Reaches}
+use Rattle.price_rules.specs.Prices.{PriceList, Reaches}
 use Rattle.price_rules.proofs.ReachLemmas.{reached-stays}
 use Rattle.sweep_rules.specs.Uncut.{IsSwept}
 use Rattle.sweep_rules.proofs.SweptLemmas.{swept-stays}
 use Rattle.refute_rules.specs.Cuts.{Cut}
-use Rattle.closing_rules.specs.ListedPrices.{cut_in, IsPricedBy, IsSweptBy}
+use Rattle.closing_rules.specs.ListedPrices.{no_prices, same_prices, cut_in, IsPricedBy, IsSweptBy}
 use Rattle.book_rules.specs.Book.{Book, slot_at, best_cost}
 use Rattle.lock_rules.specs.Node.{Node}
 use Rattle.book_rules.specs.Same.{same_instance, same_node}
@@ -20,7 +20,7 @@ use Rattle.book_rules.specs.States.{cuts_in}
 use Rattle.book_rules.specs.Step.{is_shown, is_swept}
 use Rattle.book_rules.specs.Replay.{own_shown, own_swept}
 use Rattle.lock_model.proofs.SameLemmas.{instance_decides}
-use Rattle.book_rules.proofs.SameLemmas.{same_node-decides}
+use Rattle.book_rules.proofs.SameLemmas.{same_prices-decides, same_node-decides}
 
 -- ---- cuts
 
@@ -56,19 +56,19 @@ same-reached cuts cost I J m n u v p q r h =
     (subst (λ (n : Node). Reaches J (shown_cuts J cuts) n.depth n.lines u cost) q
     (subst (λ J. Reaches J (shown_cuts J cuts) m.depth m.lines u cost) p h))
 
-module _ (b : Book) (id number : ℕ) (prices : List ℕ) (there : slice_get b.prices number ≡ Some prices) where
+module _ (b : Book) (id number : ℕ) (prices : PriceList) (there : slice_get b.prices number ≡ Some prices) where
   -- what is shown of slot id holds in the book, with all its cuts, of its cost and each lower one
   pub shown-holds : (shown : Shown) → IsShown shown → is_shown b id prices shown ≡ true → (cost : ℕ) → cost ≤ shown.cost
       → IsPricedBy b.case.instance (cuts_in b.case.instance b.cuts) b.prices number (slot_at b id).node.depth (slot_at b id).node.lines cost
   shown-holds shown reached e cost high =
       let I = b.case.instance in
       let node = (slot_at b id).node in
-      let three = same_instance shown.instance I && same_node shown.node node && pointwise nat_eq shown.prices prices in
+      let three = same_instance shown.instance I && same_node shown.node node && same_prices shown.prices prices in
       let parts = and_parts three (are_first_cuts shown.cuts b.cuts) e in
-      let rest = and_parts (same_instance shown.instance I && same_node shown.node node) (pointwise nat_eq shown.prices prices) parts.0 in
+      let rest = and_parts (same_instance shown.instance I && same_node shown.node node) (same_prices shown.prices prices) parts.0 in
       let both = and_parts (same_instance shown.instance I) (same_node shown.node node) rest.0 in
       let moved = same-reached shown.cuts shown.cost shown.instance I shown.node node shown.prices prices
-      ((instance_decides shown.instance I).0 both.0) ((same_node-decides shown.node node).0 both.1) ((bytes_decides shown.prices prices).0 rest.1) reached in
+      ((instance_decides shown.instance I).0 both.0) ((same_node-decides shown.node node).0 both.1) ((same_prices-decides shown.prices prices).0 rest.1) reached in
       record {
         own = prices;
         there = there;
@@ -80,14 +80,14 @@ module _ (b : Book) (id number : ℕ) (prices : List ℕ) (there : slice_get b.p
   own-shown cost =
       let I = b.case.instance in
       let node = (slot_at b id).node in
-      let own : slice_index_or b.prices number [] ≡ prices = got b.prices number there in
-      and_from (same_instance I I && same_node node node && pointwise nat_eq (slice_index_or b.prices number []) prices) (are_first_cuts (map chamber_cut b.cuts) b.cuts)
-      (and_from (same_instance I I && same_node node node) (pointwise nat_eq (slice_index_or b.prices number []) prices)
+      let own : slice_index_or b.prices number no_prices ≡ prices = got b.prices number there in
+      and_from (same_instance I I && same_node node node && same_prices (slice_index_or b.prices number no_prices) prices) (are_first_cuts (map chamber_cut b.cuts) b.cuts)
+      (and_from (same_instance I I && same_node node node) (same_prices (slice_index_or b.prices number no_prices) prices)
       (and_from (same_instance I I) (same_node node node) ((instance_decides I I).1 refl) ((same_node-decides node node).1 refl))
-      ((bytes_decides (slice_index_or b.prices number []) prices).1 own))
+      ((same_prices-decides (slice_index_or b.prices number no_prices) prices).1 own))
       (own-first b.cuts)
     where
-      got : (xs : List (List ℕ)) (k : ℕ) → slice_get xs k ≡ Some prices → slice_index_or xs k [] ≡ prices
+      got : (xs : List PriceList) (k : ℕ) → slice_get xs k ≡ Some prices → slice_index_or xs k no_prices ≡ prices
       got [] k e = absurd (none-some prices e)
       got (x ∷ xs) zero e = same_Some x prices e
       got (x ∷ xs) (suc k) e = got xs k e
@@ -105,7 +105,7 @@ module _ (b : Book) where
       subst (λ J. IsSwept J (shown_cuts J swept.cuts) swept.cost) ((instance_decides swept.instance I).0 both.0) holds in
       swept-stays I (shown_cuts I swept.cuts) (cuts_in I b.cuts) (first-among I swept.cuts b.cuts both.1) swept.cost (best_cost b) high moved
 
-  pub swept-held : (id number : ℕ) (prices : List ℕ) → slice_get b.prices number ≡ Some prices → (slot_at b id).node.depth ≡ 0
+  pub swept-held : (id number : ℕ) (prices : PriceList) → slice_get b.prices number ≡ Some prices → (slot_at b id).node.depth ≡ 0
       → (swept : Swept) → IsSweptCost swept → is_swept b swept ≡ true → best_cost b ≤ swept.cost
       → IsSweptBy b.case.instance (cuts_in b.case.instance b.cuts) b.prices number (slot_at b id).node.depth (best_cost b)
   swept-held id number prices there root swept holds e high =

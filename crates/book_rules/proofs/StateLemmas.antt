@@ -17,6 +17,7 @@ use Rattle.book_rules.specs.declared.book.SlotState.{SlotState}
 use Rattle.book_rules.specs.declared.book.SlotState.TheVariants as slot
 use Rattle.book_rules.specs.Book.{Case, Slot, Book, no_slot, slot_at, best_cost, bound_at, new_slot, opening_book, is_fresh, is_back, is_parked}
 use Rattle.lock_rules.specs.Node.{Node as TreeNode, root}
+use Rattle.price_rules.specs.Prices.{PriceList}
 use Rattle.book_rules.specs.Events.{Event, IsOwed}
 use Rattle.book_rules.specs.Step
 use Rattle.price_rules.proofs.ReachLemmas.{reached-stays}
@@ -30,11 +31,11 @@ use Rattle.book_rules.proofs.TallyLemmas.{Kept, Closed, outdone-is}
 use Rattle.closing_rules.specs.declared.grounds.Ground.TheVariants as by
 
 -- a new slot is closed exactly where its bound is at least the cost
-new-true : (case : Case) (cuts : List Cut) (prices : List (List ℕ)) (cost : ℕ) (node : TreeNode) (bound : ℕ) (t : Bool) → nat_le cost bound ≡ t → Tells case cuts prices cost node bound (cond t (slot.Closed by.Bound) slot.Fresh)
+new-true : (case : Case) (cuts : List Cut) (prices : List PriceList) (cost : ℕ) (node : TreeNode) (bound : ℕ) (t : Bool) → nat_le cost bound ≡ t → Tells case cuts prices cost node bound (cond t (slot.Closed by.Bound) slot.Fresh)
 new-true case cuts prices cost node bound true e = leb-true cost bound e
 new-true case cuts prices cost node bound false e = leb-false cost bound e
 
-children-true : (case : Case) (cuts : List Cut) (prices : List (List ℕ)) (cost parent depth number : ℕ) (ls : List (List (List Group))) → All (IsTrueSlot case cuts prices cost) (Step.child_slots case.instance cost parent depth number ls)
+children-true : (case : Case) (cuts : List Cut) (prices : List PriceList) (cost parent depth number : ℕ) (ls : List (List (List Group))) → All (IsTrueSlot case cuts prices cost) (Step.child_slots case.instance cost parent depth number ls)
 children-true case cuts prices cost parent depth number [] = All-nil (IsTrueSlot case cuts prices cost)
 children-true case cuts prices cost parent depth number (l ∷ ls) =
     let node : TreeNode = record { depth = depth; lines = l } in
@@ -55,7 +56,7 @@ cuts-among I (c ∷ cs) more =
     (All-weaker (Contains (cuts_in I (cs ++ more))) (Contains (cuts_in I ((c ∷ cs) ++ more))) (λ x h. (suc h.0, omega (arith, h.1), h.2)) (cuts_in I cs) (cuts-among I cs more))
 
 -- with more cuts
-more-tells : (case : Case) (cuts more : List Cut) (prices : List (List ℕ)) (cost : ℕ) (node : TreeNode) (bound : ℕ) (state : SlotState) → Tells case cuts prices cost node bound state → Tells case (cuts ++ more) prices cost node bound state
+more-tells : (case : Case) (cuts more : List Cut) (prices : List PriceList) (cost : ℕ) (node : TreeNode) (bound : ℕ) (state : SlotState) → Tells case cuts prices cost node bound state → Tells case (cuts ++ more) prices cost node bound state
 more-tells case cuts more prices cost node bound (slot.Closed (by.Cut number)) h = record { cut = h.cut; there = get-more cuts more number h.cut h.there; hits = h.hits }
 more-tells case cuts more prices cost node bound (slot.Closed (by.Price number)) h =
     let I = case.instance in
@@ -91,7 +92,7 @@ pub cuts-own : (I : Instance) (cuts : List Cut) → All (Contains (cuts_in I cut
 cuts-own I cuts = λ k d known. (k, known, get_or_default (cuts_in I cuts) k (slice_index_or (cuts_in I cuts) k d) d known)
 
 -- by a lower cost, where a Fresh slot's bound is still below it
-lower-tells : (case : Case) (cuts : List Cut) (prices : List (List ℕ)) (cost lower : ℕ) → lower ≤ cost → (node : TreeNode) (bound : ℕ) (state : SlotState) → (is_fresh state ≡ true → bound < lower) → Tells case cuts prices cost node bound state → Tells case cuts prices lower node bound state
+lower-tells : (case : Case) (cuts : List Cut) (prices : List PriceList) (cost lower : ℕ) → lower ≤ cost → (node : TreeNode) (bound : ℕ) (state : SlotState) → (is_fresh state ≡ true → bound < lower) → Tells case cuts prices cost node bound state → Tells case cuts prices lower node bound state
 lower-tells case cuts prices cost lower less node bound slot.Fresh fresh h = fresh refl
 lower-tells case cuts prices cost lower less node bound slot.Back fresh h = h
 lower-tells case cuts prices cost lower less node bound (slot.Held w) fresh h = h
@@ -108,7 +109,7 @@ lower-tells case cuts prices cost lower less node bound (slot.Closed (by.Swept n
 lower-tells case cuts prices cost lower less node bound (slot.Closed by.Throughput) fresh h = omega (arith, h, less)
 lower-tells case cuts prices cost lower less node bound (slot.Closed (by.Probe s)) fresh h = (h.0, omega (arith, h.1, less))
 
-outdone-true : (case : Case) (cuts : List Cut) (prices : List (List ℕ)) (cost lower : ℕ) → lower ≤ cost → (s : Slot) → IsTrueSlot case cuts prices cost s → IsTrueSlot case cuts prices lower (Step.outdone lower s)
+outdone-true : (case : Case) (cuts : List Cut) (prices : List PriceList) (cost lower : ℕ) → lower ≤ cost → (s : Slot) → IsTrueSlot case cuts prices cost s → IsTrueSlot case cuts prices lower (Step.outdone lower s)
 outdone-true case cuts prices cost lower less s h =
     elim (outdone-is lower s) [
       | Kept e same ↦
@@ -150,7 +151,7 @@ module _ {Break : Type 0} (broken : Instance → Plan → Option Break) (b : Boo
     states = All-weaker (IsTrueSlot b.case b.cuts b.prices (best_cost b)) (IsTrueSlot b.case (b.cuts ++ cut ∷ []) b.prices (best_cost b)) (λ s h. more-tells b.case b.cuts (cut ∷ []) b.prices (best_cost b) s.node s.bound s.state h) b.slots keeps.states;
   }
 
-  priced-states : (prices : List ℕ) → KeepsStates b → KeepsStates (Step.noted (record b { prices = b.prices ++ prices ∷ [] }) entry.Prices)
+  priced-states : (prices : PriceList) → KeepsStates b → KeepsStates (Step.noted (record b { prices = b.prices ++ prices ∷ [] }) entry.Prices)
   priced-states prices keeps = record {
     states = All-weaker (IsTrueSlot b.case b.cuts b.prices (best_cost b)) (IsTrueSlot b.case b.cuts (b.prices ++ prices ∷ []) (best_cost b)) (λ s h. priced-tells b.case b.cuts b.prices (prices ∷ []) (best_cost b) s.node s.bound s.state h) b.slots keeps.states;
   }

@@ -11,6 +11,7 @@ use Rattle.lock_model.specs.declared.plan.Plan.{Plan}
 use Rattle.lock_rules.specs.Plan.{cost_of}
 use Rattle.lock_rules.specs.Node.{Node, root, line_at}
 use Rattle.lock_rules.specs.Bound.{bound_of}
+use Rattle.price_rules.specs.Prices.{PriceList}
 use Rattle.refute_rules.specs.Cuts.{Cut}
 use Rattle.book_rules.specs.declared.book.SlotState.{SlotState}
 use Rattle.book_rules.specs.declared.book.ShownLow.{ShownLow}
@@ -39,7 +40,7 @@ pub record Book : Type 0 where
   pub opening : Plan
   pub slots : List Slot
   pub cuts : List Cut
-  pub prices : List (List ℕ)
+  pub prices : List PriceList
   pub plans : List Plan
   pub best : Plan
   pub used : ℕ

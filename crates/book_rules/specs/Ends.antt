@@ -13,7 +13,7 @@ use Rattle.lock_rules.specs.Trace.{IsUnder}
 use Rattle.lock_rules.specs.Bound.{bound_of}
 use Rattle.lock_rules.specs.Cheap.{cheap_nodes}
 use Rattle.lock_rules.specs.Size.{node_limit, turn_limit}
-use Rattle.price_rules.specs.Prices.{PlainCut, CutHolds, Reaches}
+use Rattle.price_rules.specs.Prices.{PriceList, PlainCut, CutHolds, Reaches}
 use Rattle.refute_rules.specs.Spots.{IsSpent}
 use Rattle.book_rules.specs.declared.book.SlotState.{SlotState}
 use Rattle.book_rules.specs.declared.book.SlotState.TheVariants as slot
@@ -65,7 +65,7 @@ pub record IsOptimal (I : Instance) (limit : ℕ) (P : Plan) : Type 0 where
 -- above its bound, the node of depth k reaches this cost by some prices and cuts that hold
 pub record IsShownAbove (I : Instance) (k : ℕ) (lines : List (List Group)) (low : ℕ) : Type 0 where
   pub above : bound_of I k lines < low
-  pub prices : List ℕ
+  pub prices : PriceList
   pub cuts : List PlainCut
   pub hold : All CutHolds cuts
   pub reached : Reaches I cuts k lines prices low

@@ -8,6 +8,7 @@ use Rattle.refute_rules.specs.Cuts.{Cut, IsCut}
 use Rattle.closing_rules.specs.declared.grounds.Ground.{Ground}
 use Rattle.closing_rules.specs.ListedPrices.{ArePrices}
 use Rattle.lock_rules.specs.Node.{Node as TreeNode}
+use Rattle.price_rules.specs.Prices.{PriceList}
 use Rattle.book_rules.specs.Shown.{Shown, IsShown, Swept, IsSweptCost}
 
 -- The events; `park` names slot, chamber and place, and carries the deck and the turns of the lent value; `close_price`, `show_low` and
@@ -17,7 +18,7 @@ pub data Event : Type 0 where
   split : ℕ → Event
   close : ℕ → Ground → Event
   post : Cut → Event
-  post_prices : List ℕ → Event
+  post_prices : PriceList → Event
   close_price : ℕ → ℕ → Shown → Event
   close_swept : ℕ → ℕ → Swept → Event
   show_low : ℕ → ℕ → Shown → Event

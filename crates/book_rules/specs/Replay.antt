@@ -5,6 +5,7 @@ use Rattle.lock_model.specs.Fitting.{deck_of}
 use Rattle.lock_model.specs.declared.instance.Instance.{Instance}
 use Rattle.lock_model.specs.declared.plan.Plan.{Plan}
 use Rattle.refute_rules.specs.Cuts.{Cut}
+use Rattle.closing_rules.specs.ListedPrices.{no_prices}
 use Rattle.closing_rules.specs.declared.grounds.Ground.{Ground}
 use Rattle.closing_rules.specs.declared.grounds.Ground.TheVariants as by
 use Rattle.book_rules.specs.declared.book.Entry.{Entry}
@@ -19,7 +20,7 @@ abbrev pub own_shown : Book → ℕ → ℕ → ℕ → Shown
 own_shown b id number cost = record {
   instance = b.case.instance;
   node = (slot_at b id).node;
-  prices = slice_index_or b.prices number [];
+  prices = slice_index_or b.prices number no_prices;
   cuts = map chamber_cut b.cuts;
   cost = cost;
 }

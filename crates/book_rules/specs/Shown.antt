@@ -2,7 +2,7 @@
 use Rattle.std.specs.Prelude.{ℕ, Bool, true, false, ◌&&◌, List, [], ◌∷◌, map, nat_eq}
 use Rattle.std.specs.Cmp.Lexicographic.{pointwise}
 use Rattle.lock_model.specs.declared.instance.Instance.{Instance}
-use Rattle.price_rules.specs.Prices.{PlainCut, Reaches}
+use Rattle.price_rules.specs.Prices.{PriceList, PlainCut, Reaches}
 use Rattle.sweep_rules.specs.Uncut.{IsSwept}
 use Rattle.refute_rules.specs.Cuts.{Cut}
 use Rattle.closing_rules.specs.ListedPrices.{cut_in}
@@ -17,7 +17,7 @@ pub record ChamberCut : Type 0 where
 pub record Shown : Type 0 where
   pub instance : Instance
   pub node : Node
-  pub prices : List ℕ
+  pub prices : PriceList
   pub cuts : List ChamberCut
   pub cost : ℕ
 

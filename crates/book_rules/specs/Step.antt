@@ -2,7 +2,6 @@
 use Rattle.std.specs.Prelude.{ℕ, suc, nat_eq, nat_le, nat_lt, Bool, true, false, not, ◌&&◌, ◌||◌, if◌then◌else◌, Some, None}
 use Rattle.std.specs.Prelude.{List, [], ◌∷◌, ◌++◌, length, map, slice_index_or, slice_set, slice_get}
 use Rattle.std.specs.declared.option.Option.{Option}
-use Rattle.std.specs.Cmp.Lexicographic.{pointwise}
 use Rattle.lock_model.specs.Deck.{Deck}
 use Rattle.lock_model.specs.Fitting.{deck_of}
 use Rattle.lock_model.specs.declared.instance.Instance.{Instance}
@@ -14,7 +13,9 @@ use Rattle.lock_rules.specs.Arrival.{missing_ships}
 use Rattle.lock_rules.specs.Trace.{has_number}
 use Rattle.lock_rules.specs.Throughput.{throughput_of}
 use Rattle.lock_rules.specs.Bound.{probe_of}
+use Rattle.price_rules.specs.Prices.{PriceList}
 use Rattle.refute_rules.specs.Cuts.{Cut}
+use Rattle.closing_rules.specs.ListedPrices.{same_prices}
 use Rattle.closing_rules.specs.declared.grounds.Ground.{Ground}
 use Rattle.closing_rules.specs.declared.grounds.Ground.TheVariants as by
 use Rattle.book_rules.specs.declared.book.SlotState.{SlotState}
@@ -118,11 +119,11 @@ refusal_of b id (by.Swept number) = Some NotSwept
 -- what was shown is of the case's instance, of slot id's node, by these prices and by the first cuts of the book
 abbrev pub is_shown : Book → ℕ → List ℕ → Shown → Bool
 is_shown b id prices shown =
-    same_instance shown.instance b.case.instance && same_node shown.node (slot_at b id).node && pointwise nat_eq shown.prices prices
+    same_instance shown.instance b.case.instance && same_node shown.node (slot_at b id).node && same_prices shown.prices prices
     && are_first_cuts shown.cuts b.cuts
 
 -- why slot id isn't closed by the prices of this number, where it may be closed
-abbrev pub price_refusal : {Break : Type 0} → Book → ℕ → ℕ → Shown → Option (List ℕ) → Option (Reply Break)
+abbrev pub price_refusal : {Break : Type 0} → Book → ℕ → ℕ → Shown → Option PriceList → Option (Reply Break)
 price_refusal b id number shown None = Some (NoPrices number)
 price_refusal b id number shown (Some prices) = if not (is_shown b id prices shown) then Some NotShown else cheaper_than (best_cost b) shown.cost
 
@@ -131,12 +132,12 @@ abbrev pub is_swept : Book → Swept → Bool
 is_swept b swept = same_instance swept.instance b.case.instance && are_first_cuts swept.cuts b.cuts
 
 -- by the prices of this number, where they are there
-abbrev pub sweep_by_prices : {Break : Type 0} → Book → ℕ → Swept → Option (List ℕ) → Option (Reply Break)
+abbrev pub sweep_by_prices : {Break : Type 0} → Book → ℕ → Swept → Option PriceList → Option (Reply Break)
 sweep_by_prices b number swept None = Some (NoPrices number)
 sweep_by_prices b number swept (Some prices) = if not (is_swept b swept) then Some NotSwept else cheaper_than (best_cost b) swept.cost
 
 -- why slot id isn't closed by a sweep that went by the prices of this number, where it may be closed
-abbrev pub sweep_refusal : {Break : Type 0} → Book → ℕ → ℕ → Swept → Option (List ℕ) → Option (Reply Break)
+abbrev pub sweep_refusal : {Break : Type 0} → Book → ℕ → ℕ → Swept → Option PriceList → Option (Reply Break)
 sweep_refusal b id number swept prices =
     if not (nat_eq (slot_at b id).node.depth 0) then Some NotRoot else sweep_by_prices b number swept prices
 
@@ -162,7 +163,7 @@ close_swept_step b id number swept =
     else close_unless b id (by.Swept number) (sweep_refusal b id number swept (slice_get b.prices number))
 
 -- why the cost isn't shown of slot id by the prices of this number, where it is live
-abbrev pub low_refusal : {Break : Type 0} → Book → ℕ → ℕ → Shown → Option (List ℕ) → Option (Reply Break)
+abbrev pub low_refusal : {Break : Type 0} → Book → ℕ → ℕ → Shown → Option PriceList → Option (Reply Break)
 low_refusal b id number shown None = Some (NoPrices number)
 low_refusal b id number shown (Some prices) =
     if not (is_shown b id prices shown) then Some NotShown

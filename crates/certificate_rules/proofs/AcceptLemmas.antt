@@ -5,6 +5,7 @@ use Rattle.lock_model.specs.declared.group.Group.{Group}
 use Rattle.lock_rules.specs.Plan.{IsCheapest}
 use Rattle.lock_rules.specs.Node.{root_lines}
 use Rattle.lock_rules.specs.Children.{children_of}
+use Rattle.price_rules.specs.Prices.{PriceList}
 use Rattle.refute_rules.specs.Trees.{AreInOrder}
 use Rattle.certificate_rules.specs.declared.certificate.Mark.{Mark}
 use Rattle.certificate_rules.specs.declared.certificate.Mark.TheVariants as mark
@@ -16,7 +17,7 @@ use Rattle.certificate_rules.proofs.LowLemmas.{showing-low, tree-ends}
 
 -- ---- a tree shows every number where no mark is an open leaf
 
-module _ (I : Instance) (cost : ℕ) (cuts : List CertCut) (prices : List (List ℕ)) (n : ℕ) where
+module _ (I : Instance) (cost : ℕ) (cuts : List CertCut) (prices : List PriceList) (n : ℕ) where
   abbrev Tree : ℕ → ℕ → List (List Group) → List Mark → List Mark → Type 0
   Tree = IsMarkTree I (EndsNode I cost cuts prices)
 

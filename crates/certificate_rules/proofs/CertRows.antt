@@ -7,7 +7,7 @@ use Rattle.lock_model.specs.Fleet.{ship_at}
 use Rattle.lock_model.specs.declared.group.Group.{Group}
 use Rattle.lock_model.specs.declared.way.Way.TheVariants.{Up}
 use Rattle.lock_rules.specs.Children.{single}
-use Rattle.price_rules.specs.Prices.{Spares, IsUncut, IsLoose, AreLoose, Reaches}
+use Rattle.price_rules.specs.Prices.{PriceList, Spares, IsUncut, IsLoose, AreLoose, Reaches}
 use Rattle.refute_rules.specs.declared.refutation.Quick.TheVariants.{Row}
 use Rattle.refute_rules.specs.declared.refutation.Refutation.TheVariants as refutation
 use Rattle.closing_rules.specs.ProvedCuts.{CertCut}
@@ -65,7 +65,7 @@ row-empty ok = inl (inl (refl, refl))
 abbrev pub narrow_cuts : List CertCut
 narrow_cuts = record { chamber = 0; ships = 0 ∷ 1 ∷ []; refutation = refutation.Quick (Row (0 ∷ 1 ∷ [])) } ∷ []
 
-abbrev pub low_prices : List (List ℕ)
+abbrev pub low_prices : List PriceList
 low_prices = (8400 ∷ 8400 ∷ []) ∷ []
 
 -- the first ship alone in the chamber is worth 3500 - 8400

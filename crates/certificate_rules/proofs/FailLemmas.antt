@@ -5,6 +5,7 @@ use Rattle.lock_model.specs.declared.instance.Instance.{Instance}
 use Rattle.lock_model.specs.declared.group.Group.{Group}
 use Rattle.lock_rules.specs.Node.{root_lines}
 use Rattle.lock_rules.specs.Children.{children_of}
+use Rattle.price_rules.specs.Prices.{PriceList}
 use Rattle.refute_rules.specs.Trees.{AreInOrder}
 use Rattle.certificate_rules.specs.declared.certificate.Mark.{Mark}
 use Rattle.certificate_rules.specs.declared.certificate.Mark.TheVariants as mark
@@ -75,7 +76,7 @@ cuts-not_fail I cuts c why proved f =
     let good : IsProved I f.cut = subst (IsProved I) f.is (proved c f.cut f.known) in
     elim f.unproved [ inl u ↦ u.0 good.shaped | inr u ↦ u.1 good ]
 
-prices-not_fail : (I : Instance) (prices : List (List ℕ)) (v : ℕ) (why : Reason) → All (AreShapedPrices I) prices → PricesFail I prices v why → ⊥
+prices-not_fail : (I : Instance) (prices : List PriceList) (v : ℕ) (why : Reason) → All (AreShapedPrices I) prices → PricesFail I prices v why → ⊥
 prices-not_fail I prices v why shaped f = f.misshaped (subst (AreShapedPrices I) f.is (shaped v f.own f.known))
 
 -- a certificate that fails doesn't stand

@@ -13,7 +13,7 @@ use Rattle.lock_rules.specs.Bound.{bound_of}
 use Rattle.refute_rules.specs.Trees.{AreInOrder}
 use Rattle.certificate_rules.specs.declared.certificate.Mark.TheVariants as mark
 use Rattle.certificate_rules.specs.declared.certificate.Mark.{Mark}
-use Rattle.price_rules.specs.Prices.{PlainCut, CutHolds}
+use Rattle.price_rules.specs.Prices.{PriceList, PlainCut, CutHolds}
 use Rattle.closing_rules.specs.declared.grounds.Ground.{Ground}
 use Rattle.closing_rules.specs.declared.grounds.Ground.TheVariants as by
 use Rattle.closing_rules.specs.ListedPrices.{cut_in, IsPricedBy}
@@ -26,14 +26,14 @@ use Rattle.closing_rules.specs.Laws.{TreeLaws}
 -- ---- what an open leaf shows
 
 -- less is reached too
-pub priced-less : (I : Instance) (cuts : List PlainCut) (prices : List (List ℕ)) (number k : ℕ) (lines : List (List Group)) (n less : ℕ) → less ≤ n → IsPricedBy I cuts prices number k lines n → IsPricedBy I cuts prices number k lines less
+pub priced-less : (I : Instance) (cuts : List PlainCut) (prices : List PriceList) (number k : ℕ) (lines : List (List Group)) (n less : ℕ) → less ≤ n → IsPricedBy I cuts prices number k lines n → IsPricedBy I cuts prices number k lines less
 priced-less I cuts prices number k lines n less low priced = record {
   own = priced.own;
   there = priced.there;
   reached = record { high = λ chosen loose. let high = priced.reached.high chosen loose in omega (arith, low, high) };
 }
 
-module _ (I : Instance) (cuts : List CertCut) (prices : List (List ℕ)) where
+module _ (I : Instance) (cuts : List CertCut) (prices : List PriceList) where
   -- a mark that shows a number shows each that is less
   pub shows-less : (n less k : ℕ) (lines : List (List Group)) (m : Mark) → less ≤ n → ShowsCost I cuts prices n k lines m → ShowsCost I cuts prices less k lines m
   shows-less n less k lines mark.Split low h = tt
@@ -84,7 +84,7 @@ low-same I C m n a b =
 
 -- ---- and no plan costs less
 
-module _ (I : Instance) (cost : ℕ) (cuts : List CertCut) (prices : List (List ℕ)) (n : ℕ) (few : n ≤ cost) where
+module _ (I : Instance) (cost : ℕ) (cuts : List CertCut) (prices : List PriceList) (n : ℕ) (few : n ≤ cost) where
   abbrev Tree : ℕ → ℕ → List (List Group) → List Mark → List Mark → Type 0
   Tree = IsMarkTree I (EndsShowing I cost cuts prices n)
 

@@ -15,7 +15,7 @@ use Rattle.lock_rules.specs.Cut.{Hits}
 use Rattle.lock_rules.proofs.AmongLemmas.{among-filter}
 use Rattle.lock_rules.proofs.TreeLemmas.{contains-among}
 use Rattle.lock_rules.proofs.RowInstances.{chambers-narrow, ships-narrow, narrow}
-use Rattle.price_rules.specs.Prices.{PlainCut, Spares, IsUncut, IsLoose, AreLoose, Reaches}
+use Rattle.price_rules.specs.Prices.{PriceList, PlainCut, Spares, IsUncut, IsLoose, AreLoose, Reaches}
 use Rattle.price_rules.proofs.ReachLemmas.{reached-without}
 use Rattle.closing_rules.specs.ProvedCuts.{CertCut}
 use Rattle.closing_rules.specs.ListedPrices.{IsPricedBy, cut_in}
@@ -41,7 +41,7 @@ first_held = (single Up 0 ∷ []) ∷ [] ∷ [] ∷ [] ∷ []
 abbrev both_together : List (List Group)
 both_together = (record { way = Up; ships = 0 ∷ 1 ∷ [] } ∷ []) ∷ [] ∷ [] ∷ [] ∷ []
 
-module _ (ok : IsInstance chambers-narrow ships-narrow) (P : Plan) (cuts : List CertCut) (prices : List (List ℕ)) where
+module _ (ok : IsInstance chambers-narrow ships-narrow) (P : Plan) (cuts : List CertCut) (prices : List PriceList) where
   -- the tree shows what its open leaf shows, as the other leaves are closed by their bounds
   row-shows : (n : ℕ) (m : Mark) → EndsShowing (narrow ok) 120 cuts prices n 2 both_together m → IsTreeShowing (narrow ok) (row_certificate P cuts prices m) n
   row-shows n m ends =

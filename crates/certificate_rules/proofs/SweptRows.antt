@@ -10,7 +10,7 @@ use Rattle.lock_rules.specs.Node.{root_lines}
 use Rattle.lock_rules.specs.Children.{single}
 use Rattle.lock_rules.proofs.NodeLemmas.{increasing-RisesFrom}
 use Rattle.lock_rules.proofs.RowInstances.{chambers-narrow, ships-narrow, narrow}
-use Rattle.price_rules.specs.Prices.{Spares, IsUncut}
+use Rattle.price_rules.specs.Prices.{PriceList, Spares, IsUncut}
 use Rattle.sweep_rules.specs.Uncut.{IsUncutPlan, times_over}
 use Rattle.sweep_rules.proofs.RowLock.{row}
 use Rattle.sweep_rules.proofs.Rows.{in_order-swept}
@@ -24,7 +24,7 @@ use Rattle.certificate_rules.specs.Failures.{MarksFail}
 abbrev swept : ℕ → Mark
 swept number = mark.Leaf (by.Swept number)
 
-abbrev row_prices : List (List ℕ)
+abbrev row_prices : List PriceList
 row_prices = (3500 ∷ 5000 ∷ 5000 ∷ []) ∷ []
 
 -- three ships of one way, one at a time: first come, first served costs 225, which is swept

@@ -9,7 +9,7 @@ use Rattle.lock_rules.specs.Node.{root_lines}
 use Rattle.lock_rules.specs.Children.{children_of}
 use Rattle.lock_rules.specs.Bound.{bound_of}
 use Rattle.lock_rules.specs.Cut.{HitsNode}
-use Rattle.price_rules.specs.Prices.{PlainCut}
+use Rattle.price_rules.specs.Prices.{PriceList, PlainCut}
 use Rattle.refute_rules.specs.Trees.{AreInOrder}
 use Rattle.certificate_rules.specs.declared.certificate.Mark.{Mark}
 use Rattle.certificate_rules.specs.declared.certificate.Mark.TheVariants as mark
@@ -21,7 +21,7 @@ pub record Certificate : Type 0 where
   pub cost : ℕ
   pub cuts : List CertCut
   pub plan : Plan
-  pub prices : List (List ℕ)
+  pub prices : List PriceList
   pub tree : List Mark
 
 -- the cut of this number is there and hits a group of the node

@@ -6,6 +6,7 @@ use Rattle.lock_model.specs.declared.plan.Plan.{Plan}
 use Rattle.lock_rules.specs.Plan.{IsLegal, cost_of}
 use Rattle.lock_rules.specs.Node.{root_lines}
 use Rattle.lock_rules.specs.Children.{children_of}
+use Rattle.price_rules.specs.Prices.{PriceList}
 use Rattle.closing_rules.specs.declared.grounds.Ground.{Ground}
 use Rattle.closing_rules.specs.declared.grounds.Ground.TheVariants as by
 use Rattle.certificate_rules.specs.declared.certificate.Mark.{Mark}
@@ -71,8 +72,8 @@ pub record CutFails (I : Instance) (cuts : List CertCut) (c : ℕ) (r : Reason) 
   pub unproved : ((IsShaped I cut → ⊥) × (r ≡ reason.CutShape)) ⊎ (IsShaped I cut × (IsProved I cut → ⊥) × (r ≡ reason.CutUnproved))
 
 -- prices number v are the first that aren't one for each ship
-pub record PricesFail (I : Instance) (prices : List (List ℕ)) (v : ℕ) (r : Reason) : Type 0 where
-  pub own : List ℕ
+pub record PricesFail (I : Instance) (prices : List PriceList) (v : ℕ) (r : Reason) : Type 0 where
+  pub own : PriceList
   pub known : v < length prices
   pub is : slice_index_or prices v own ≡ own
   pub before : All (AreShapedPrices I) (take v prices)

@@ -15,6 +15,7 @@ use Rattle.certificate_rules.specs.declared.certificate.Mark.{Mark}
 use Rattle.certificate_rules.specs.declared.numbering.Numbering.{Numbering}
 use Rattle.certificate_rules.specs.declared.numbering.Numbering.TheVariants.{Few, Many}
 use Rattle.closing_rules.specs.ProvedCuts.{CertCut}
+use Rattle.price_rules.specs.Prices.{PriceList}
 use Rattle.closing_rules.specs.ListedPrices.{ArePrices}
 use Rattle.certificate_rules.specs.Certificates.{Certificate}
 use Rattle.refute_rules.specs.declared.refutation.Refutation.TheVariants as refutation
@@ -48,8 +49,8 @@ abbrev pub IsFormedLockage : Lockage → Type 0
 IsFormedLockage l = Within 1 MOST (length l.ships) × (length l.spots ≡ length l.ships)
 
 -- 1 to so many prices, none above 1,000,000
-abbrev pub AreFormedPrices : ℕ → List ℕ → Type 0
-AreFormedPrices most prices = Within 1 most (length prices) × ArePrices prices
+abbrev pub AreFormedPrices : ℕ → PriceList → Type 0
+AreFormedPrices most prices = Within 1 most (length prices.ships) × ArePrices prices
 
 abbrev pub IsFormedGround : Numbering → Ground → Type 0
 IsFormedGround numbering (by.Probe s) = s < probed_ships numbering

@@ -12,7 +12,7 @@ use Rattle.lock_rules.specs.Arrival.{missing_ships}
 use Rattle.lock_rules.specs.Bound.{IsLowerBound, bound_of, probe_of}
 use Rattle.lock_rules.specs.Throughput.{throughput_of}
 use Rattle.lock_rules.specs.Cut.{HitsNode}
-use Rattle.price_rules.specs.Prices.{PlainCut, CutHolds, Reaches}
+use Rattle.price_rules.specs.Prices.{PlainCut, PriceList, CutHolds, Reaches}
 use Rattle.sweep_rules.specs.Uncut.{IsSwept}
 use Rattle.closing_rules.specs.ProvedCuts.{CertCut, IsProved}
 use Rattle.closing_rules.specs.ListedPrices.{cut_in}
@@ -38,6 +38,6 @@ pub record TreeLaws (I : Instance) : Type 0 where
   pub cut : (c : CertCut) (k : ℕ) (lines : List (List Group)) (P : Plan)
       → IsProved I c → IsNode I k lines → HitsNode c.ships (deck_of I c.chamber c.ships) I lines → IsLegal I P → IsUnder I k lines P → ⊥
   pub holds : (c : CertCut) → IsProved I c → CutHolds (cut_in I c.chamber c.ships)
-  pub price : (cuts : List PlainCut) (k : ℕ) (lines : List (List Group)) (prices : List ℕ) (cost : ℕ)
+  pub price : (cuts : List PlainCut) (k : ℕ) (lines : List (List Group)) (prices : PriceList) (cost : ℕ)
       → All CutHolds cuts → Reaches I cuts k lines prices cost → IsLowerBound I k lines cost
   pub swept : (cuts : List PlainCut) (cost : ℕ) → All CutHolds cuts → IsSwept I cuts cost → (P : Plan) → IsLegal I P → cost ≤ cost_of I P

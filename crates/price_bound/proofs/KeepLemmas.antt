@@ -5,7 +5,7 @@ use Rattle.std.proofs.lemmas.List.Elements.{All-push, All-weaker}
 use Rattle.std.specs.declared.option.Option.{Option}
 use Rattle.lock_model.specs.declared.instance.Instance.{Instance}
 use Rattle.lock_model.specs.declared.group.Group.{Group}
-use Rattle.price_rules.specs.Prices.{PlainCut}
+use Rattle.price_rules.specs.Prices.{PriceList, PlainCut}
 use Rattle.price_terms.specs.declared.loose_line.LooseLine.{LooseLine}
 use Rattle.price_terms.specs.declared.cut.ChamberCut.{ChamberCut}
 use Rattle.price_bound.specs.declared.terms.Terms.{Terms}
@@ -21,13 +21,13 @@ use Rattle.price_bound.specs.declared.kept_groups.ChamberGroups.{ChamberGroups}
 use Rattle.price_bound.specs.declared.kept_groups.KeptGroups.{KeptGroups}
 
 -- a line with the same groups and the same worth is as good
-pub copy-least : (I : Instance) (c : ℕ) (cuts : List PlainCut) (k : ℕ) (prices : List ℕ) (line : List Group) (one other : LooseLine) → other.groups.items ≡ one.groups.items → other.worth ≡ one.worth → IsLeastLine (line_ask I c cuts k prices line) one → IsLeastLine (line_ask I c cuts k prices line) other
+pub copy-least : (I : Instance) (c : ℕ) (cuts : List PlainCut) (k : ℕ) (prices : PriceList) (line : List Group) (one other : LooseLine) → other.groups.items ≡ one.groups.items → other.worth ≡ one.worth → IsLeastLine (line_ask I c cuts k prices line) one → IsLeastLine (line_ask I c cuts k prices line) other
 copy-least I c cuts k prices line one other groups worth is = record {
   least = subst (λ w. IsLeastOn (line_ask I c cuts k prices line) (Some w)) (sym worth) is.least;
   is = subst (IsLineWorth (line_ask I c cuts k prices line) other.groups.items) (sym worth) (subst (λ gs. IsLineWorth (line_ask I c cuts k prices line) gs one.worth) (sym groups) is.is);
 }
 
-module _ (I : Instance) (c k : ℕ) (prices : List ℕ) (cuts : List ChamberCut) (line : List Group) where
+module _ (I : Instance) (c k : ℕ) (prices : PriceList) (cuts : List ChamberCut) (line : List Group) where
   -- what was found of a case is found under its terms
   pub kept-under : (terms : Terms) (kept : KeptLine) → AreTerms I k prices cuts terms → IsOf c line kept → IsFound (kept_ask I c k prices cuts line) kept.least → IsKeptUnder terms kept
   kept-under terms kept under of found =
@@ -70,7 +70,7 @@ module _ (I : Instance) (k : ℕ) (cuts : List ChamberCut) (groups : KeptGroups)
   stocks-to terms instance depth are = subst (λ J. AreAllGroupsFor J terms.depth cuts groups) (sym instance) (subst (λ d. AreAllGroupsFor I d cuts groups) (sym depth) are)
 
   -- the same where the terms may be missing
-  pub stocked-to : (prices : List ℕ) (terms : Option Terms) → AreUnder I k prices cuts terms → AreAllGroupsFor I k cuts groups → AreGroupsUnder terms groups
+  pub stocked-to : (prices : PriceList) (terms : Option Terms) → AreUnder I k prices cuts terms → AreAllGroupsFor I k cuts groups → AreGroupsUnder terms groups
   stocked-to prices None under are = absurd under
   stocked-to prices (Some terms) under are = subst (λ ts. AreAllGroupsFor terms.instance terms.depth ts groups) (sym under.same_cuts) (stocks-to terms under.same_instance under.same_depth are)
 

@@ -1,4 +1,3 @@
 pub mod KeepLemmas
 pub mod SparedLemmas
 pub mod TotalLemmas
-pub mod BelowLemmas

@@ -8,7 +8,7 @@ use Rattle.list_laws.proofs.Lists.{Contains-before_push}
 use Rattle.lock_model.specs.declared.limits.TheConstants.{SHIPS}
 use Rattle.lock_model.specs.declared.instance.Instance.{Instance}
 use Rattle.lock_model.specs.declared.group.Group.{Group}
-use Rattle.price_rules.specs.Prices.{PlainCut, Spares}
+use Rattle.price_rules.specs.Prices.{PriceList, PlainCut, Spares}
 use Rattle.price_groups.specs.declared.grown_lists.GrownGroup.{GrownGroup}
 use Rattle.price_groups.specs.declared.grown_lists.GrownList.{GrownList}
 use Rattle.price_groups.specs.Asks.{group_ask}
@@ -121,7 +121,7 @@ module _ (I : Instance) (c k : ℕ) (sets added : List (List ℕ)) (base : Group
   }
 
 -- WHAT IS LEFT of a list is what grows under all the sets.
-pub spared-grown : (I : Instance) (c k : ℕ) (prices : List ℕ) (sets added : List (List ℕ)) (masks : List ℕ) (list spared : GrownList) → length I.ships ≤ SHIPS → AreMarks I added (length added) masks → IsSparedList masks list spared
+pub spared-grown : (I : Instance) (c k : ℕ) (prices : PriceList) (sets added : List (List ℕ)) (masks : List ℕ) (list spared : GrownList) → length I.ships ≤ SHIPS → AreMarks I added (length added) masks → IsSparedList masks list spared
     → IsGrownList (group_ask I c k prices sets) list → IsGrownList (group_ask I c k prices (sets ++ added)) spared
 spared-grown I c k prices sets added masks list spared few marks is grown = record {
   each = λ j d here.
@@ -150,7 +150,7 @@ spared-grown I c k prices sets added masks list spared few marks is grown = reco
         record { one = has.one; held = subst (Contains spared.groups.items) at held; is = has.is }
 
 -- the same of all lists
-pub spared-all : (I : Instance) (c k : ℕ) (prices : List ℕ) (sets added : List (List ℕ)) (masks : List ℕ) (lists spared : List GrownList) → length I.ships ≤ SHIPS → AreMarks I added (length added) masks → AreSparedLists masks lists (length lists) spared
+pub spared-all : (I : Instance) (c k : ℕ) (prices : PriceList) (sets added : List (List ℕ)) (masks : List ℕ) (lists spared : List GrownList) → length I.ships ≤ SHIPS → AreMarks I added (length added) masks → AreSparedLists masks lists (length lists) spared
     → All (IsGrownList (group_ask I c k prices sets)) lists → All (IsGrownList (group_ask I c k prices (sets ++ added))) spared
 spared-all I c k prices sets added masks lists spared few marks are grown = λ j d here.
     let less : j < length lists = omega (arith, here, are.count) in

@@ -15,7 +15,7 @@ use Rattle.lock_rules.proofs.ChildLemmas.{times_on-held}
 use Rattle.lock_rules.proofs.SplitLemmas.{times_in-at}
 use Rattle.lock_rules.proofs.NodeLemmas.{group-line}
 use Rattle.lock_rules.proofs.LeafLemmas.{has_number-some}
-use Rattle.price_rules.specs.Prices.{PlainCut, IsLoose, Reaches, paid_in, missing_prices}
+use Rattle.price_rules.specs.Prices.{PriceList, PlainCut, IsLoose, Reaches, paid_in, missing_prices}
 use Rattle.price_groups.specs.Asks.{line_ask}
 use Rattle.price_groups.specs.Worth.{worth_from, IsKeptGroup}
 use Rattle.price_table.specs.Lines.{IsLeastOn, IsLeastLine}
@@ -29,7 +29,7 @@ use Rattle.price_terms.specs.declared.loose_line.LooseLine.{LooseLine}
 sum_by-one : (f : ℕ → ℕ) (n : ℕ) → sum_by f (n ∷ []) ≡ f n
 sum_by-one f n = omega (arith, sum_by-cons f n [])
 
-module _ (I : Instance) (cuts : List PlainCut) (k : ℕ) (lines : List (List Group)) (prices : List ℕ) where
+module _ (I : Instance) (cuts : List PlainCut) (k : ℕ) (lines : List (List Group)) (prices : PriceList) where
   worths-same : (first second : ℕ → List Group) (n : ℕ) → ((c : ℕ) → c < n → first c ≡ second c) → worths_of I k prices first n ≡ worths_of I k prices second n
   worths-same first second zero same = refl
   worths-same first second (suc n) same =
@@ -109,7 +109,7 @@ module _ (n : ℕ) (v w : ℤ) (few : n < 4) (v-low : neg_ℤ (pos (816080000000
   more-high = subst (λ x. x ≤ℤ pos (most_worth * (n + 1))) more-rounded (omega (arith, ints, v-high, w-high))
 
 -- one chamber more, in the type of sums
-pub sum-more : (I : Instance) (cuts : List PlainCut) (k : ℕ) (lines : List (List Group)) (prices : List ℕ) (n : ℕ) (v w : ℤ) → n < 4 → neg_ℤ (pos (816080000000000 * n)) ≤ℤ v → v ≤ℤ pos (most_worth * n) → neg_ℤ (pos 816080000000000) ≤ℤ w → w ≤ℤ pos most_worth
+pub sum-more : (I : Instance) (cuts : List PlainCut) (k : ℕ) (lines : List (List Group)) (prices : PriceList) (n : ℕ) (v w : ℤ) → n < 4 → neg_ℤ (pos (816080000000000 * n)) ≤ℤ v → v ≤ℤ pos (most_worth * n) → neg_ℤ (pos 816080000000000) ≤ℤ w → w ≤ℤ pos most_worth
     → IsLeastSum (node_ask I cuts k lines prices) n v → IsLeastOn (line_ask I n cuts k prices (line_at lines n)) (Some w) → IsLeastSum (node_ask I cuts k lines prices) (n + 1) (to_z w64 (of_z w64 (v +ℤ to_z w64 (of_z w64 w))))
 sum-more I cuts k lines prices n v w few v-low v-high w-low w-high sum least =
     let up : suc n ≡ n + 1 = omega arith in
@@ -128,7 +128,7 @@ line-kept I k lines node c known = λ j d here.
           has_number-some (first_ships I k) s (omega (arith, own, group-line s (line_at lines c) j d here, times_on-held s lines c, node.held s));
     }
 
-module _ (I : Instance) (cuts : List PlainCut) (k : ℕ) (prices : List ℕ) where
+module _ (I : Instance) (cuts : List PlainCut) (k : ℕ) (prices : PriceList) where
   -- the line of one chamber more
   pub lines-next : (lines : List (List Group)) (n : ℕ) (found : List LooseLine) (more : LooseLine) → AreLeastLines (node_ask I cuts k lines prices) n found → IsLeastLine (line_ask I n cuts k prices (line_at lines n)) more → AreLeastLines (node_ask I cuts k lines prices) (n + 1) (found ++ more ∷ [])
   lines-next lines n found more are is = record {

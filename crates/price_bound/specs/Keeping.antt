@@ -3,6 +3,7 @@ use Rattle.std.specs.Prelude.{ℕ, ◌≡◌, ◌≤◌, ◌≤ℤ◌, pos, neg_
 use Rattle.std.specs.declared.option.Option.{Option}
 use Rattle.lock_model.specs.declared.instance.Instance.{Instance}
 use Rattle.lock_model.specs.declared.group.Group.{Group}
+use Rattle.price_rules.specs.Prices.{PriceList}
 use Rattle.price_terms.specs.declared.cut.ChamberCut.{ChamberCut}
 use Rattle.price_terms.specs.declared.loose_line.LooseLine.{LooseLine}
 use Rattle.price_bound.specs.declared.terms.Terms.{Terms}
@@ -15,7 +16,7 @@ use Rattle.price_bound.specs.KeptGroups.{AreGroupsUnder}
 use Rattle.price_bound.specs.declared.kept_groups.KeptGroups.{KeptGroups}
 
 -- the terms name this instance, depth, prices and cuts
-pub record AreTerms (I : Instance) (k : ℕ) (prices : List ℕ) (cuts : List ChamberCut) (terms : Terms) : Type 0 where
+pub record AreTerms (I : Instance) (k : ℕ) (prices : PriceList) (cuts : List ChamberCut) (terms : Terms) : Type 0 where
   pub same_instance : terms.instance ≡ I
   pub same_depth : terms.depth ≡ k
   pub same_prices : terms.prices ≡ prices
@@ -33,7 +34,7 @@ pub record LeadTo (I : Instance) (k : ℕ) (cuts : List ChamberCut) (terms : Ter
   pub first_cuts : AreFirst terms.cuts.items cuts
 
 -- the terms have gone on from n of these cuts to the first i of them
-pub record HaveGone (I : Instance) (k : ℕ) (prices : List ℕ) (cuts : List ChamberCut) (n i : ℕ) (terms : Terms) : Type 0 where
+pub record HaveGone (I : Instance) (k : ℕ) (prices : PriceList) (cuts : List ChamberCut) (n i : ℕ) (terms : Terms) : Type 0 where
   pub are : AreTerms I k prices (take i cuts) terms
   pub from : n ≤ i
   pub to : i ≤ length cuts

@@ -5,7 +5,7 @@ use Rattle.lock_model.specs.Fleet.{chamber_at}
 use Rattle.lock_model.specs.declared.instance.Instance.{Instance}
 use Rattle.lock_model.specs.declared.group.Group.{Group}
 use Rattle.lock_rules.specs.Node.{line_at}
-use Rattle.price_rules.specs.Prices.{missing_prices}
+use Rattle.price_rules.specs.Prices.{missing_prices, triple_prices}
 use Rattle.price_terms.specs.declared.loose_line.LooseLine.{LooseLine}
 use Rattle.price_terms.specs.declared.loose_line.LooseLines.{LooseLines}
 use Rattle.price_groups.specs.Asks.{IsLooseIn}
@@ -14,7 +14,7 @@ use Rattle.price_table.specs.Lines.{IsLeastLine}
 use Rattle.price_bound.specs.Asks.{NodeAsk, chamber_ask}
 
 -- what the chosen lines of the first n chambers are worth
-abbrev pub worths_of : Instance → ℕ → List ℕ → (ℕ → List Group) → ℕ → ℤ
+abbrev pub worths_of : Instance → ℕ → PriceList → (ℕ → List Group) → ℕ → ℤ
 worths_of I k prices chosen zero = pos 0
 worths_of I k prices chosen (suc n) =
     worths_of I k prices chosen n +ℤ worth_from I n k prices (chamber_at I n).stands (chamber_at I n).opens (chosen n)
@@ -38,11 +38,11 @@ abbrev pub IsAdded : NodeAsk → Option ℤ → Type 0
 IsAdded N None = HasNoLooseLine N
 IsAdded N (Some sum) = IsLeastSum N (length N.instance.chambers) sum
 
--- the least worth of a loose line for each chamber, and the prices of the missing ships
+-- the least worth of a loose line for each chamber, and the prices of the missing ships, less those of the triples
 pub record IsPriceSum (N : NodeAsk) (sum : ℤ) : Type 0 where
   pub least : ℤ
   pub is_least : IsLeastSum N (length N.instance.chambers) least
-  pub value : sum ≡ (least +ℤ pos (missing_prices N.instance N.depth N.prices))
+  pub value : (sum +ℤ pos (triple_prices N.prices)) ≡ (least +ℤ pos (missing_prices N.instance N.depth N.prices))
 
 -- that sum, or that some chamber has no loose line
 abbrev pub IsNodeSum : NodeAsk → Option ℤ → Type 0

@@ -1,7 +1,7 @@
 //! The costs that a node reaches by prices.
 ghost use Rattle.std.specs.Prelude.{◌≡◌, ◌+◌, ◌*◌, ◌<◌, ◌≤◌, ◌↔◌, ◌⊎◌, ℕ, ◌≤ℤ◌, ◌<ℤ◌, ◌+ℤ◌, pos, neg_ℤ, length, IsTrue, IfOk, IfSome, IfNone, sum_by};
 ghost use Rattle.lock_rules.specs.Arrival.{first_ships};
-ghost use Rattle.price_rules.specs.Prices.{price_at};
+ghost use Rattle.price_rules.specs.Prices.{price_at, triple_prices};
 ghost use Rattle.price_terms.specs.Claim.{IsReached};
 ghost use Rattle.price_table.specs.Values.{most_worth};
 ghost use Rattle.price_bound.specs.Asked.{node_asked, claimed};
@@ -99,9 +99,21 @@ fn prices_of(prices: &Prices, ships: &[u8]) -> u64
     sum
 }
 
-/// The least of `100 * flow - paid` over a loose line for each chamber, and the prices of the missing
-/// ships, in hundredths of a minute; None where some chamber has no loose line. Refuses as `reaches`
-/// does.
+// The prices of the triples, added.
+fn triples_of(prices: &Prices) -> u64
+    ensures value { result ≡ triple_prices prices.now }
+    ensures small { result ≤ 255000000 }
+{
+    let mut sum = 0;
+    for triple in prices.triples() {
+        sum += triple.price as u64;
+    }
+    sum
+}
+
+/// The least of `100 * flow + charged - paid` over a loose line for each chamber, and the prices of the
+/// missing ships less those of the triples, in hundredths of a minute; None where some chamber has no
+/// loose line. Refuses as `reaches` does.
 pub fn price_sum(
     kept: &mut KeptLines,
     asked: &PricedNode,
@@ -115,7 +127,10 @@ pub fn price_sum(
     let (held, missing) = order.as_slice().split_at(asked.node.depth() as usize);
     match added(kept, asked, held, limits)? {
         None => Ok(None),
-        Some(least) => Ok(Some(least + prices_of(asked.prices, missing) as i64)),
+        Some(least) => {
+            let missing = least + prices_of(asked.prices, missing) as i64;
+            Ok(Some(missing - triples_of(asked.prices) as i64))
+        }
     }
 }
 

@@ -19,7 +19,7 @@ use Rattle.lock_rules.specs.Children.{insert_number, with_ship}
 use Rattle.lock_rules.proofs.TreeLemmas.{RisesFrom-filter, length-insert_number, low-times_in, times_in-hit, times_in-miss, filter-present}
 use Rattle.lock_rules.proofs.SplitLemmas.{RisesFrom-increasing, All-times, times_in-at}
 use Rattle.lock_rules.proofs.NodeLemmas.{RisesFrom-insert, All-insert_number, increasing-RisesFrom}
-use Rattle.price_rules.specs.Prices.{is_missing}
+use Rattle.price_rules.specs.Prices.{PriceList, is_missing}
 use Rattle.price_groups.specs.Asks.{GroupAsk, group_ask}
 use Rattle.price_groups.specs.Growing.{IsAllowed, IsGrown, HasIdler, AreGrown, MayJoin, AreJoining, IsBase, IsNew, IsJoined}
 use Rattle.price_groups.specs.Sparing.{LacksSome}
@@ -100,7 +100,7 @@ before i j less m = elim (leb_tells (suc j) i) [ inl y ↦ y.1 | inr q ↦ absur
 same-place : (gs : List Group) (i j : ℕ) (e d : Group) → i < length gs → j ≡ i → slice_index_or gs j e ≡ slice_index_or gs i d
 same-place gs i j e d here same = ap (λ j. slice_index_or gs j e) same ∙ get_or_default gs i e d here
 
-module _ (I : Instance) (c k : ℕ) (prices : List ℕ) (sets : List (List ℕ)) (base : Group) where
+module _ (I : Instance) (c k : ℕ) (prices : PriceList) (sets : List (List ℕ)) (base : Group) where
   abbrev A : GroupAsk
   A = group_ask I c k prices sets
 

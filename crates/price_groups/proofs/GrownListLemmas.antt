@@ -5,6 +5,7 @@ use Rattle.std.proofs.lemmas.List.Elements.{Contains-get_or}
 use Rattle.std.proofs.lemmas.List.Sorted.{All-permutation, Contains-permutation}
 use Rattle.lock_model.specs.declared.instance.Instance.{Instance}
 use Rattle.lock_model.specs.declared.group.Group.{Group}
+use Rattle.price_rules.specs.Prices.{PriceList}
 use Rattle.price_groups.specs.declared.sums.Sums.{Sums}
 use Rattle.price_groups.specs.declared.grown_lists.GrownGroup.{GrownGroup}
 use Rattle.price_groups.specs.declared.grown_lists.GrownList.{GrownList}
@@ -13,7 +14,7 @@ use Rattle.price_groups.specs.Growing.{IsGrown, HasIdler, AreGrown}
 use Rattle.price_groups.specs.GrownLists.{ArePaired, IsGrownGroup, HasGroup, IsGrownList}
 use Rattle.price_groups.specs.Sums.{AreSumsOf, AreWeighed}
 
-module _ (I : Instance) (c k : ℕ) (prices : List ℕ) (sets : List (List ℕ)) where
+module _ (I : Instance) (c k : ℕ) (prices : PriceList) (sets : List (List ℕ)) where
   abbrev A : GroupAsk
   A = group_ask I c k prices sets
 

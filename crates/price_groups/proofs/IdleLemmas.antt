@@ -11,6 +11,8 @@ use Rattle.lock_rules.specs.Timetable.{last_arrival}
 use Rattle.lock_rules.proofs.TimetableLemmas.{last_arrival-least, last_arrival-each}
 use Rattle.lock_rules.proofs.TraceLemmas.{sum_by-filter}
 use Rattle.lock_rules.proofs.TreeLemmas.{length-insert_number}
+use Rattle.price_rules.specs.Prices.{PriceList, charged_on}
+use Rattle.price_rules.proofs.ChargeLemmas.{charged-filter}
 use Rattle.price_groups.specs.Growing.{HasIdler}
 use Rattle.price_groups.specs.Worth.{paid_on, arrivals_of, soonest_of, ServeFrom}
 
@@ -25,7 +27,7 @@ module _ (I : Instance) where
   soonest-fewer c p ships = omega (arith, last-fewer p ships, sum_by-filter (λ s. (ship_at I s).handling) p ships)
 
   -- a ship that gains nothing among fewer ships gains nothing among all
-  pub idler-more : (c k : ℕ) (prices : List ℕ) (p : ℕ → Bool) (g : Group) → HasIdler I c k prices (record { way = g.way; ships = filter p g.ships }) → HasIdler I c k prices g
+  pub idler-more : (c k : ℕ) (prices : PriceList) (p : ℕ → Bool) (g : Group) → HasIdler I c k prices (record { way = g.way; ships = filter p g.ships }) → HasIdler I c k prices g
   idler-more c k prices p g idler = record {
     several = omega (arith, idler.several, filter-shorter p g.ships);
     ship = idler.ship;
@@ -35,7 +37,7 @@ module _ (I : Instance) where
   }
 
   -- THE OTHERS SERVE AS WELL as ships of which one counts no more than their soonest end.
-  pub fewer-serve : (c k : ℕ) (prices : List ℕ) (p : ℕ → Bool) (s rate : ℕ) (ships : List ℕ) → insert_number s (filter p ships) ≡ ships
+  pub fewer-serve : (c k : ℕ) (prices : PriceList) (p : ℕ → Bool) (s rate : ℕ) (ships : List ℕ) → insert_number s (filter p ships) ≡ ships
       → paid_on I k prices ships + 100 * arrivals_of I ships ≡ rate + (paid_on I k prices (filter p ships) + 100 * arrivals_of I (filter p ships)) → rate ≤ 100 * soonest_of I c 0 ships
       → ServeFrom I c k prices 0 (filter p ships) ships
   fewer-serve c k prices p s rate ships again sums idle = record {
@@ -44,12 +46,13 @@ module _ (I : Instance) where
     quick = sum_by-filter (λ s. (ship_at I s).handling) p ships;
     pays =
         let more : length ships ≡ suc (length (filter p ships)) = ap length (sym again) ∙ length-insert_number s (filter p ships) in
-        subst (λ n. paid_on I k prices ships + 100 * arrivals_of I ships + 100 * (length (filter p ships) * soonest_of I c 0 ships) ≤ paid_on I k prices (filter p ships) + 100 * arrivals_of I (filter p ships) + 100 * (n * soonest_of I c 0 ships)) (sym more)
-        (step (length (filter p ships)) (soonest_of I c 0 ships) rate (paid_on I k prices ships + 100 * arrivals_of I ships) (paid_on I k prices (filter p ships) + 100 * arrivals_of I (filter p ships)) sums idle);
+        subst (λ n. paid_on I k prices ships + charged_on prices (filter p ships) + 100 * arrivals_of I ships + 100 * (length (filter p ships) * soonest_of I c 0 ships) ≤ paid_on I k prices (filter p ships) + charged_on prices ships + 100 * arrivals_of I (filter p ships) + 100 * (n * soonest_of I c 0 ships)) (sym more)
+        (step (length (filter p ships)) (soonest_of I c 0 ships) rate (paid_on I k prices ships) (100 * arrivals_of I ships) (paid_on I k prices (filter p ships)) (100 * arrivals_of I (filter p ships)) (charged_on prices (filter p ships)) (charged_on prices ships)
+        sums idle (charged-filter prices p ships));
   }
     where
-      step : (n e r x y : ℕ) → x ≡ r + y → r ≤ 100 * e → x + 100 * (n * e) ≤ y + 100 * (suc n * e)
-      step n e r x y sum idle = omega (arith, sum, idle)
+      step : (n e r x a y b few all : ℕ) → x + a ≡ r + (y + b) → r ≤ 100 * e → few ≤ all → x + few + a + 100 * (n * e) ≤ y + all + b + 100 * (suc n * e)
+      step n e r x a y b few all sum idle less = omega (arith, sum, idle, less)
 
 -- a sum with a number more
 pub sum-insert : (f : ℕ → ℕ) (s : ℕ) (xs : List ℕ) → sum_by f (insert_number s xs) ≡ f s + sum_by f xs

@@ -5,3 +5,4 @@ pub mod MaskLemmas
 pub mod RateLemmas
 pub mod GrownListLemmas
 pub mod WeighLemmas
+pub mod ChargingLemmas

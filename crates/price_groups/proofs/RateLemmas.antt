@@ -5,9 +5,10 @@ use Rattle.std.proofs.lemmas.Bool.Decides.{eqb_tells, leb_tells}
 use Rattle.std.proofs.lemmas.List.{get_or_append_left, length-append}
 use Rattle.std.proofs.lemmas.List.Elements.{All-nil, All-push}
 use Rattle.lock_model.specs.declared.instance.Instance.{Instance}
+use Rattle.price_rules.specs.Prices.{PriceList}
 use Rattle.price_groups.specs.Sums.{rate_of, AreRates}
 
-module _ (I : Instance) (k : ℕ) (prices : List ℕ) where
+module _ (I : Instance) (k : ℕ) (prices : PriceList) where
   pub rates-first : AreRates I k prices 0 []
   rates-first = record { count = refl; each = λ s d none. absurd (omega (arith, none)); small = All-nil (λ r. r ≤ 101000000) }
 

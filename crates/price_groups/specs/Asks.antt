@@ -3,7 +3,7 @@ use Rattle.std.specs.Prelude.{ℕ, ℤ, List}
 use Rattle.lock_model.specs.declared.instance.Instance.{Instance}
 use Rattle.lock_model.specs.declared.group.Group.{Group}
 use Rattle.lock_model.specs.declared.way.Stand.{Stand}
-use Rattle.price_rules.specs.Prices.{PlainCut, IsUncut, IsLoose}
+use Rattle.price_rules.specs.Prices.{PlainCut, PriceList, IsUncut, IsLoose}
 use Rattle.price_groups.specs.Worth.{end_after, worth_of, worth_from}
 
 -- a chamber of an instance and its line at a node of a depth, cuts and prices
@@ -12,10 +12,10 @@ pub record LineAsk : Type 0 where
   pub chamber : ℕ
   pub cuts : List PlainCut
   pub depth : ℕ
-  pub prices : List ℕ
+  pub prices : PriceList
   pub line : List Group
 
-abbrev pub line_ask : Instance → ℕ → List PlainCut → ℕ → List ℕ → List Group → LineAsk
+abbrev pub line_ask : Instance → ℕ → List PlainCut → ℕ → PriceList → List Group → LineAsk
 line_ask I c cuts k prices line = record { instance = I; chamber = c; cuts = cuts; depth = k; prices = prices; line = line }
 
 -- a chamber of an instance at nodes of a depth, prices that no price is above, and the ship sets that are forbidden
@@ -23,10 +23,10 @@ pub record GroupAsk : Type 0 where
   pub instance : Instance
   pub chamber : ℕ
   pub depth : ℕ
-  pub ceilings : List ℕ
+  pub ceilings : PriceList
   pub sets : List (List ℕ)
 
-abbrev pub group_ask : Instance → ℕ → ℕ → List ℕ → List (List ℕ) → GroupAsk
+abbrev pub group_ask : Instance → ℕ → ℕ → PriceList → List (List ℕ) → GroupAsk
 group_ask I c k ceilings sets = record { instance = I; chamber = c; depth = k; ceilings = ceilings; sets = sets }
 
 -- what is uncut and loose there

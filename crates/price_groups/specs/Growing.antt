@@ -7,7 +7,7 @@ use Rattle.lock_model.specs.declared.group.Group.{Group}
 use Rattle.lock_rules.specs.Arrival.{first_ships}
 use Rattle.lock_rules.specs.Trace.{has_number}
 use Rattle.lock_rules.specs.Children.{insert_number, with_ship}
-use Rattle.price_rules.specs.Prices.{is_missing, price_at}
+use Rattle.price_rules.specs.Prices.{PriceList, is_missing, price_at}
 use Rattle.price_groups.specs.Asks.{GroupAsk}
 use Rattle.price_groups.specs.Sparing.{LacksSome}
 use Rattle.price_groups.specs.Worth.{soonest_of}
@@ -17,7 +17,7 @@ abbrev pub IsAllowed : Instance → ℕ → ℕ → ℕ → Type 0
 IsAllowed I k n s = (has_number (first_ships I k) s ≡ true) ⊎ (s < n)
 
 -- no price is above its ceiling
-abbrev pub AreBelow : List ℕ → List ℕ → Type 0
+abbrev pub AreBelow : PriceList → PriceList → Type 0
 AreBelow prices ceilings = (s : ℕ) → price_at prices s ≤ price_at ceilings s
 
 -- The group is the base joined by missing ships of its way with numbers below n; the chamber may serve them
@@ -33,7 +33,7 @@ pub record IsGrown (I : Instance) (c k : ℕ) (sets : List (List ℕ)) (base : G
   pub allowed : All (IsAllowed I k n) g.ships
 
 -- One of several ships is missing and gains nothing: even at the ships' soonest end it is served for at least its price.
-pub record HasIdler (I : Instance) (c k : ℕ) (prices : List ℕ) (g : Group) : Type 0 where
+pub record HasIdler (I : Instance) (c k : ℕ) (prices : PriceList) (g : Group) : Type 0 where
   pub several : 2 ≤ length g.ships
   pub ship : ℕ
   pub held : Contains g.ships ship
@@ -41,7 +41,7 @@ pub record HasIdler (I : Instance) (c k : ℕ) (prices : List ℕ) (g : Group) :
   pub idle : price_at prices ship + 100 * (ship_at I ship).arrival ≤ 100 * soonest_of I c 0 g.ships
 
 -- the ship is missing and gains nothing where it is served by the minute
-abbrev pub IsIdleBy : Instance → ℕ → List ℕ → ℕ → ℕ → Type 0
+abbrev pub IsIdleBy : Instance → ℕ → PriceList → ℕ → ℕ → Type 0
 IsIdleBy I k prices s end = (is_missing I k s ≡ true) × (price_at prices s + 100 * (ship_at I s).arrival ≤ 100 * end)
 
 -- the same at the ceilings

@@ -6,18 +6,18 @@ use Rattle.lock_model.specs.declared.group.Group.{Group}
 use Rattle.lock_rules.specs.Lawful.{duration_of}
 use Rattle.lock_rules.specs.Timetable.{last_arrival}
 use Rattle.lock_rules.specs.Children.{insert_number}
-use Rattle.price_rules.specs.Prices.{is_missing, price_at}
+use Rattle.price_rules.specs.Prices.{PriceList, is_missing, price_at}
 use Rattle.price_groups.specs.declared.growing.WeighedGroups.{WeighedGroups}
 use Rattle.price_groups.specs.declared.sums.Sums.{Sums}
 use Rattle.price_groups.specs.Asks.{GroupAsk}
 use Rattle.price_groups.specs.Masks.{IsMask}
 
 -- what ship s counts: 100 times its arrival, and its price where it is missing
-abbrev pub rate_of : Instance → ℕ → List ℕ → ℕ → ℕ
+abbrev pub rate_of : Instance → ℕ → PriceList → ℕ → ℕ
 rate_of I k prices s = 100 * (ship_at I s).arrival + cond (is_missing I k s) (price_at prices s) 0
 
 -- what the first n ships count
-pub record AreRates (I : Instance) (k : ℕ) (prices : List ℕ) (n : ℕ) (rates : List ℕ) : Type 0 where
+pub record AreRates (I : Instance) (k : ℕ) (prices : PriceList) (n : ℕ) (rates : List ℕ) : Type 0 where
   pub count : length rates ≡ n
   pub each : (s d : ℕ) → s < n → slice_index_or rates s d ≡ rate_of I k prices s
   pub small : All (λ r. r ≤ 101000000) rates

@@ -4,7 +4,8 @@
 //! forbid its chamber, and `completable_by_ship` for each ship those that it may complete, as numbers.
 //! `list_for` grows a group of the chamber's line, or none, by missing ships in all ways that hold no
 //! forbidden set, by what an `Extension` says; groups of which a ship gains nothing at prices that are no
-//! lower are left out. So lists serve until prices rise above these.
+//! lower are left out. So lists serve until prices rise above these, whatever triples have prices: fewer
+//! ships are charged no more. `charge` gives what a group is charged.
 //!
 //! Definitions: `price_rules` says what uncut groups are. Here `specs/Asks` says once what is asked of a
 //! chamber's line (`LineAsk`) and of its groups (`GroupAsk`), and `Asked` what a `LineCase` and an
@@ -13,6 +14,7 @@
 //! what a list of them holds. `Growing` is of the steps.
 #![tactic(auto)]
 
+mod charging;
 mod completable_sets;
 mod extension;
 mod forbidden;
@@ -24,6 +26,7 @@ mod masks;
 mod sums;
 mod weighing;
 
+pub use charging::charge;
 pub use completable_sets::CompletableSets;
 pub use extension::Extension;
 pub use forbidden::{are_spared, forbidden_sets};

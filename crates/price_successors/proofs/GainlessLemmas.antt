@@ -6,7 +6,7 @@ use Rattle.lock_model.specs.declared.instance.Instance.{Instance}
 use Rattle.lock_model.specs.declared.way.Stand.{Stand}
 use Rattle.lock_rules.specs.Timetable.{start_of}
 use Rattle.lock_rules.proofs.TimetableLemmas.{start_of-lawful, last_arrival-least}
-use Rattle.price_rules.specs.Prices.{paid_by}
+use Rattle.price_rules.specs.Prices.{PriceList, paid_by, charged_by}
 use Rattle.price_successors.specs.declared.successor.Successor.{Successor}
 use Rattle.price_groups.specs.Asks.{LineAsk}
 use Rattle.price_groups.specs.Worth.{arrivals_of, end_after, worth_of}
@@ -25,7 +25,7 @@ module _ (L : LineAsk) (known : L.chamber < length L.instance.chambers) where
   abbrev k : ℕ
   k = L.depth
 
-  abbrev prices : List ℕ
+  abbrev prices : PriceList
   prices = L.prices
 
   -- From the minute on a successor ends no sooner than its last ship, or the minute, and its duration.
@@ -36,14 +36,14 @@ module _ (L : LineAsk) (known : L.chamber < length L.instance.chambers) where
       omega (arith, past, last, lawful.later, is.sums.last, is.sums.duration)
 
   -- Where missing ships alone pay no more than what they are worth by then, they gain nothing.
-  pub vain-successor : (late : ℕ) (h : Successor) → IsSuccessor L h → h.joins ≡ None → (soonest : ℕ) → soonest ≤ max late h.last + h.duration → h.pays ≤ 100 * (length h.group.ships * soonest) → IsGainless L late h.joins h.group
+  pub vain-successor : (late : ℕ) (h : Successor) → IsSuccessor L h → h.joins ≡ None → (soonest : ℕ) → soonest ≤ max late h.last + h.duration → h.pays ≤ 100 * (length h.group.ships * soonest) + h.charged → IsGainless L late h.joins h.group
   vain-successor late h is alone soonest bound little = record {
     alone = alone;
     gainless = λ stand from past.
-        step (worth_of I c k prices stand from h.group) (length h.group.ships * end_after I c stand from h.group) (length h.group.ships * soonest) h.pays (paid_by I k prices h.group + 100 * arrivals_of I h.group.ships)
-        (worth-sums I c stand from h.group known k prices) (is.sums.pays ∙ rates-sum L h.group.ships) little
+        step (worth_of I c k prices stand from h.group) (length h.group.ships * end_after I c stand from h.group) (length h.group.ships * soonest) h.pays (paid_by I k prices h.group + 100 * arrivals_of I h.group.ships) h.charged (charged_by prices h.group)
+        (worth-sums I c stand from h.group known k prices) (is.sums.pays ∙ rates-sum L h.group.ships) is.sums.charged little
         (mul-le (length h.group.ships) soonest (length h.group.ships) (end_after I c stand from h.group) (omega arith) (omega (arith, bound, end-soonest late h is stand from past)));
   }
     where
-      step : (w : ℤ) (m n p q : ℕ) → w ≡ (pos (100 * m) -ℤ pos q) → p ≡ q → p ≤ 100 * n → n ≤ m → pos 0 ≤ℤ w
-      step w m n p q e same h j = omega (arith, ints)
+      step : (w : ℤ) (m n p q d f : ℕ) → w ≡ (pos (100 * m + f) -ℤ pos q) → p ≡ q → d ≡ f → p ≤ 100 * n + d → n ≤ m → pos 0 ≤ℤ w
+      step w m n p q d f e same charged h j = omega (arith, ints)

@@ -12,6 +12,7 @@ use Rattle.lock_model.specs.declared.group.Group.{Group}
 use Rattle.lock_model.specs.declared.way.Stand.{Stand}
 use Rattle.price_successors.specs.declared.successor.Successor.{Successor}
 use Rattle.price_successors.specs.declared.late_list.LateList.{LateList}
+use Rattle.price_rules.specs.Prices.{PriceList, charged_by}
 use Rattle.price_groups.specs.Asks.{LineAsk}
 use Rattle.price_groups.specs.Worth.{paid_on, arrivals_of, worth_of, soonest_of, ServeFrom}
 use Rattle.price_successors.specs.Successors.{IsSuccessor, Leads}
@@ -32,7 +33,7 @@ module _ (L : LineAsk) (known : L.chamber < length L.instance.chambers) where
   abbrev k : ℕ
   k = L.depth
 
-  abbrev prices : List ℕ
+  abbrev prices : PriceList
   prices = L.prices
 
   -- what serves late serves from each later minute on
@@ -46,12 +47,12 @@ module _ (L : LineAsk) (known : L.chamber < length L.instance.chambers) where
         let m = length h.group.ships in
         let soon : soonest late h ≤ soonest_of I c from h.group.ships = omega (arith, past, second.sums.last, second.sums.duration) in
         later (n * soonest late h) (m * soonest late h) (n * soonest_of I c from h.group.ships) (m * soonest_of I c from h.group.ships) other.pays h.pays
-        (paid_on I k prices other.group.ships + 100 * arrivals_of I other.group.ships) (paid_on I k prices h.group.ships + 100 * arrivals_of I h.group.ships)
-        (first.sums.pays ∙ rates-sum L other.group.ships) (second.sums.pays ∙ rates-sum L h.group.ships) serves.pays (later-more n m (soonest late h) (soonest_of I c from h.group.ships) serves.count soon);
+        (paid_on I k prices other.group.ships) (100 * arrivals_of I other.group.ships) (paid_on I k prices h.group.ships) (100 * arrivals_of I h.group.ships) other.charged h.charged (charged_by prices other.group) (charged_by prices h.group)
+        (first.sums.pays ∙ rates-sum L other.group.ships) (second.sums.pays ∙ rates-sum L h.group.ships) first.sums.charged second.sums.charged serves.pays (later-more n m (soonest late h) (soonest_of I c from h.group.ships) serves.count soon);
   }
     where
-      later : (u v m n p q x y : ℕ) → p ≡ x → q ≡ y → q + 100 * u ≤ p + 100 * v → m + v ≤ n + u → y + 100 * m ≤ x + 100 * n
-      later u v m n p q x y e f h j = omega (arith, e, f, h, j)
+      later : (u v m n p q x a y b d g few all : ℕ) → p ≡ x + a → q ≡ y + b → d ≡ few → g ≡ all → q + d + 100 * u ≤ p + g + 100 * v → m + v ≤ n + u → y + few + b + 100 * m ≤ x + all + a + 100 * n
+      later u v m n p q x a y b d g few all e f own others h j = omega (arith, e, f, own, others, h, j)
 
   -- with the successor that serves for it a successor is counted
   pub counted-late : (stand : Stand) (from p : ℕ) (best : ℤ) (late : ℕ) (other h : Successor) → late ≤ from → DominatesLate late other h → IsSuccessor L other → IsSuccessor L h

@@ -23,7 +23,7 @@ use Rattle.lock_rules.proofs.AmongLemmas.{contains-times}
 use Rattle.lock_rules.proofs.CountLemmas.{sum_by-passing}
 use Rattle.lock_rules.proofs.TreeLemmas.{length-insert_number}
 use Rattle.lock_rules.proofs.SplitLemmas.{filter-all}
-use Rattle.price_rules.specs.Prices.{PlainCut, IsUncut, is_missing, price_at}
+use Rattle.price_rules.specs.Prices.{PriceList, PlainCut, IsUncut, is_missing, price_at}
 use Rattle.price_successors.specs.declared.successor.Successor.{Successor}
 use Rattle.price_groups.specs.Asks.{LineAsk, group_ask}
 use Rattle.price_groups.specs.Growing.{AreBelow, IsGrown}
@@ -53,7 +53,7 @@ module _ (L : LineAsk) where
   abbrev k : ℕ
   k = L.depth
 
-  abbrev prices : List ℕ
+  abbrev prices : PriceList
   prices = L.prices
 
   -- the rates of ships are what they pay and 100 times their arrivals
@@ -91,7 +91,7 @@ module _ (L : LineAsk) where
     same = same-kept successor.joins other.group successor.group (subst (λ to. Keeps L to other.group) serves.joins first.keeps) second.keeps;
     early = omega (arith, serves.last, first.sums.last, second.sums.last);
     quick = omega (arith, serves.duration, first.sums.duration, second.sums.duration);
-    pays = omega (arith, serves.pays, first.sums.pays, second.sums.pays, rates-sum other.group.ships, rates-sum successor.group.ships);
+    pays = omega (arith, serves.pays, first.sums.pays, second.sums.pays, first.sums.charged, second.sums.charged, rates-sum other.group.ships, rates-sum successor.group.ships);
   }
 
   pub served-by : (successors : List Successor) (other successor : Successor) → Contains successors other → Dominates other successor → IsSuccessor L other → IsSuccessor L successor → IsDominated L successors successor.joins successor.group
@@ -182,7 +182,7 @@ module _ (L : LineAsk) where
       allowed = All-weaker (λ s. s < length I.ships) (λ s. (has_number (first_ships I k) s ≡ true) ⊎ (s < length I.ships)) (λ s h. inr h) g.ships uncut.known;
     }
 
-  module _ (sets : List (List ℕ)) (are : AreForbidden I c cuts sets) (to : Option ℕ) (ceilings : List ℕ) (below : AreBelow prices ceilings) (list : GrownList) (grown : IsGrownList (group_ask I c k ceilings sets) list) where
+  module _ (sets : List (List ℕ)) (are : AreForbidden I c cuts sets) (to : Option ℕ) (ceilings : PriceList) (below : AreBelow prices ceilings) (list : GrownList) (grown : IsGrownList (group_ask I c k ceilings sets) list) where
     abbrev groups : List GrownGroup
     groups = list.groups.items
 

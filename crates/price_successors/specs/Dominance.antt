@@ -9,28 +9,30 @@ use Rattle.price_groups.specs.Worth.{ServeFrom}
 use Rattle.price_successors.specs.Successors.{IsSuccessor}
 
 -- The successor joins the same group as the other, has its way, and is no more ships, arrives no later, takes no
--- longer and pays no less.
+-- longer and pays no less beyond what it is charged.
 pub record Dominates (other successor : Successor) : Type 0 where
   pub joins : other.joins ≡ successor.joins
   pub way : other.group.way ≡ successor.group.way
   pub count : length other.group.ships ≤ length successor.group.ships
   pub last : other.last ≤ successor.last
   pub duration : other.duration ≤ successor.duration
-  pub pays : successor.pays ≤ other.pays
+  pub pays : successor.pays + other.charged ≤ other.pays + successor.charged
 
 -- the soonest end of the successor from the minute on
 abbrev pub soonest : ℕ → Successor → ℕ
 soonest late successor = max late successor.last + successor.duration
 
--- What the successor pays more than the other is no more than what its further ships are worth at its soonest end
+-- What the successor pays more than the other, beyond what both are charged, is no more than what its further ships are worth at its soonest end
 -- from the minute on.
 abbrev pub PaysEnough : ℕ → Successor → Successor → Type 0
 PaysEnough late other successor =
-    successor.pays + 100 * (length other.group.ships * soonest late successor) ≤ other.pays + 100 * (length successor.group.ships * soonest late successor)
+    successor.pays + other.charged + 100 * (length other.group.ships * soonest late successor)
+    ≤ other.pays + successor.charged + 100 * (length successor.group.ships * soonest late successor)
 
--- It joins no group, and pays no more than its ships are worth at its soonest end from the minute on.
+-- It joins no group, and pays no more than it is charged and its ships are worth at its soonest end from the minute on.
 abbrev pub PaysLittle : ℕ → Successor → Type 0
-PaysLittle late successor = (successor.joins ≡ None) × (successor.pays ≤ 100 * (length successor.group.ships * soonest late successor))
+PaysLittle late successor =
+    (successor.joins ≡ None) × (successor.pays ≤ 100 * (length successor.group.ships * soonest late successor) + successor.charged)
 
 -- The successor joins the same group as the other, has its way, and is no more ships, arrives no later or by the
 -- minute, and takes no longer; it may pay less by what the other's further ships are worth at its soonest end.

@@ -7,6 +7,7 @@ use Rattle.lock_rules.specs.Lawful.{duration_of}
 use Rattle.lock_rules.specs.Timetable.{last_arrival}
 use Rattle.lock_rules.specs.Arrival.{first_ships}
 use Rattle.lock_rules.specs.Trace.{has_number}
+use Rattle.price_rules.specs.Prices.{charged_by}
 use Rattle.price_successors.specs.declared.successor.Successor.{Successor}
 use Rattle.price_groups.specs.Asks.{LineAsk, IsUncutIn}
 use Rattle.price_groups.specs.Growing.{IsBase}
@@ -24,7 +25,9 @@ pub record AreSums (L : LineAsk) (successor : Successor) : Type 0 where
   pub pays : successor.pays ≡ sum_by (rate_of L.instance L.depth L.prices) successor.group.ships
   pub short : successor.duration ≤ 9000000
   pub soon : successor.last ≤ 1000000
+  pub charged : successor.charged ≡ charged_by L.prices successor.group
   pub fair : successor.pays ≤ 808000000
+  pub light : successor.charged ≤ 255000000
 
 -- a successor is an uncut group with its sums
 pub record IsSuccessor (L : LineAsk) (successor : Successor) : Type 0 where

@@ -37,7 +37,7 @@ impl Bests {
     fn beats(&self, successors: &[Successor], place: Option<u16>, successor: &Successor) -> bool {
         match place {
             Some(place) if (place as usize) < successors.len() => {
-                successor.pays > successors[place as usize].pays
+                successor.merit() > successors[place as usize].merit()
             }
             _ => true,
         }

@@ -77,7 +77,7 @@ impl Buckets {
     // Whether a successor is better than another by the merit.
     fn is_better(&self, successor: &Successor, other: &Successor) -> bool {
         match self.merit {
-            Merit::Pays => successor.pays > other.pays,
+            Merit::Pays => successor.merit() > other.merit(),
             Merit::Soon => successor.last < other.last,
         }
     }

@@ -19,7 +19,8 @@ fn dominates(other: &Successor, successor: &Successor) -> bool
     other.duration <= successor.duration
         && other.last <= successor.last
         && other.group.ships.len() <= successor.group.ships.len()
-        && other.pays >= successor.pays
+        && other.pays as u64 + successor.charged as u64
+            >= successor.pays as u64 + other.charged as u64
         && other.group.way == successor.group.way
         && other.joins == successor.joins
 }
@@ -152,7 +153,7 @@ pub(crate) fn put_each(
 pub(crate) fn order(successors: &mut Vec<Successor>) -> Result<(), PriceError>
     ensures { OnOk result (IsPermutation successors.old.items successors.new.items) }
 {
-    match successors.sort_by_key(|successor| u32::MAX - successor.pays) {
+    match successors.sort_by_key(|successor| u32::MAX - successor.merit()) {
         Ok(()) => Ok(()),
         Err(_) => Err(PriceError::NoMemory),
     }

@@ -17,19 +17,21 @@ pub(crate) fn worth_by(count: u64, end: u64) -> u64
     100 * (count * end)
 }
 
-// Whether a successor joins no group and pays no more than its ships are worth as soon as they can be
-// served from a minute on.
+// Whether a successor joins no group and pays no more than it is charged and its ships are worth as soon
+// as they can be served from a minute on.
 fn pays_little(successor: &Successor, minute: u64) -> bool
     requires minute { minute ≤ 4294967296 }
     requires short { successor.now.duration ≤ 9000000 }
     requires soon { successor.now.last ≤ 1000000 }
+    requires light { successor.now.charged ≤ 255000000 }
     ensures { IsTrue result → PaysLittle minute successor.now }
 {
     if successor.joins.is_some() {
         return false;
     }
     let soonest = minute.max(successor.last as u64) + successor.duration as u64;
-    successor.pays as u64 <= worth_by(successor.group.ships.len() as u64, soonest)
+    successor.pays as u64
+        <= worth_by(successor.group.ships.len() as u64, soonest) + successor.charged as u64
 }
 
 /// Whether a successor is of missing ships alone that gain nothing, in whatever state they are served

@@ -23,8 +23,8 @@ pub fn latest(successors: &[Successor]) -> u32
     latest
 }
 
-// Whether what a successor pays more than another is no more than what its further ships are worth as
-// soon as it can end.
+// Whether what a successor pays more than another, beyond what both are charged, is no more than what its
+// further ships are worth as soon as it can end.
 fn pays_enough(other: &Successor, successor: &Successor, late: u64) -> bool
     requires late { late ≤ 4294967296 }
     requires short { successor.now.duration ≤ 9000000 }
@@ -32,8 +32,10 @@ fn pays_enough(other: &Successor, successor: &Successor, late: u64) -> bool
     ensures { IsTrue result → PaysEnough late other.now successor.now }
 {
     let end = late.max(successor.last as u64) + successor.duration as u64;
-    successor.pays as u64 + worth_by(other.group.ships.len() as u64, end)
-        <= other.pays as u64 + worth_by(successor.group.ships.len() as u64, end)
+    let own = successor.pays as u64 + other.charged as u64;
+    let others = other.pays as u64 + successor.charged as u64;
+    own + worth_by(other.group.ships.len() as u64, end)
+        <= others + worth_by(successor.group.ships.len() as u64, end)
 }
 
 // Whether a successor joins the same group as another, has its way and is no worse by its other sums.

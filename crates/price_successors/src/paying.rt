@@ -1,4 +1,4 @@
-//! What a group that has grown pays.
+//! What a group that has grown pays and is charged.
 ghost use Rattle.std.specs.Prelude.{◌≡◌, ◌+◌, ◌<◌, ◌≤◌, length, All, sum_by};
 ghost use Rattle.price_groups.specs.Asked.{line_asked, group_asked};
 ghost use Rattle.price_groups.specs.Sums.{rate_of, AreSumsIn};
@@ -7,7 +7,7 @@ ghost use Rattle.price_successors.specs.Successors.{AreSums};
 use crate::successor::Successor;
 use chamber_times::duration;
 use lock_model::MOST;
-use price_groups::{Extension, GrownGroup};
+use price_groups::{Extension, GrownGroup, charge};
 
 // What a ship counts, as it was worked out before.
 fn known_rate(extension: &Extension, ship: u8) -> u32
@@ -32,7 +32,7 @@ fn paid(extension: &Extension, ships: &[u8]) -> u32
     sum
 }
 
-/// A group that has grown as a successor, with what it pays.
+/// A group that has grown as a successor, with what it pays and is charged.
 pub(crate) fn weighed(extension: &Extension, grown: &GrownGroup, joins: Option<u8>) -> Successor
     requires known { All (λ s. s < length extension.now.case.now.instance.now.ships) grown.now.group.ships }
     requires few { length grown.now.group.ships ≤ MOST }
@@ -47,5 +47,6 @@ pub(crate) fn weighed(extension: &Extension, grown: &GrownGroup, joins: Option<u
         duration: grown.sums.duration,
         last: grown.sums.last,
         pays: paid(extension, grown.group.ships.as_slice()),
+        charged: charge(extension.case.prices, grown.sums.mask),
     }
 }

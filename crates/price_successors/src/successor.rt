@@ -17,9 +17,16 @@ pub struct Successor {
     pub last: u32,
     /// The prices of its missing ships and 100 times its arrivals, in hundredths of a minute.
     pub pays: u32,
+    /// The prices of the triples that it has, in hundredths of a minute.
+    pub charged: u32,
 }
 
 impl Successor {
+    // What it pays beyond what it is charged, which tells how good it is and helps speed alone.
+    pub(crate) fn merit(&self) -> u32 {
+        self.pays.saturating_sub(self.charged)
+    }
+
     // The same successor.
     pub(crate) fn copy(&self) -> Successor
         ensures { result ≡ self.now }
@@ -30,6 +37,7 @@ impl Successor {
             duration: self.duration,
             last: self.last,
             pays: self.pays,
+            charged: self.charged,
         }
     }
 }

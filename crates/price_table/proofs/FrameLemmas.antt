@@ -18,7 +18,7 @@ use Rattle.lock_rules.specs.Arrival.{first_ships}
 use Rattle.lock_rules.specs.Node.{IsNodeGroup}
 use Rattle.lock_rules.specs.Trace.{has_number, with_group}
 use Rattle.lock_model.specs.Fleet.{ship_at}
-use Rattle.price_rules.specs.Prices.{PlainCut, IsUncut, IsLoose, is_missing, price_at}
+use Rattle.price_rules.specs.Prices.{PriceList, PlainCut, IsUncut, IsLoose, is_missing, price_at}
 use Rattle.price_table.specs.declared.frame.Frame.{Frame}
 use Rattle.price_successors.specs.declared.successor.Successor.{Successor}
 use Rattle.price_successors.specs.declared.successor_list.SuccessorList.{SuccessorList}
@@ -78,7 +78,7 @@ module _ (L : LineAsk) (known : L.chamber < length L.instance.chambers) (horizon
   abbrev k : ℕ
   k = L.depth
 
-  abbrev prices : List ℕ
+  abbrev prices : PriceList
   prices = L.prices
 
   abbrev line : List Group
@@ -276,7 +276,7 @@ module _ (L : LineAsk) (known : L.chamber < length L.instance.chambers) (horizon
   values-none values none = record { wide = none.wide; told = λ p stand minute v small held. absurd (none.none (key_of values.places p stand minute) v held) }
 
 -- the horizon of the ships before one more
-pub late-next : (I : Instance) (k : ℕ) (prices : List ℕ) (i old new : ℕ) → old ≤ new → (is_missing I k i ≡ true → price_at prices i + 100 * (ship_at I i).arrival ≤ 100 * new)
+pub late-next : (I : Instance) (k : ℕ) (prices : PriceList) (i old new : ℕ) → old ≤ new → (is_missing I k i ≡ true → price_at prices i + 100 * (ship_at I i).arrival ≤ 100 * new)
     → ((s : ℕ) → s < i → is_missing I k s ≡ true → price_at prices s + 100 * (ship_at I s).arrival ≤ 100 * old)
     → (s : ℕ) → s < i + 1 → is_missing I k s ≡ true → price_at prices s + 100 * (ship_at I s).arrival ≤ 100 * new
 late-next I k prices i old new more here before s at missing = elim (eqb_tells s i) [
@@ -301,7 +301,7 @@ module _ (I : Instance) (c : ℕ) (cuts : List PlainCut) (sets : List (List ℕ)
       record { good = good i d here; known = known i d here; spared = are.spared g.ships (known i d here) (spared i d here).missed }
 
   -- a line with another group has no loose line
-  pub cut-least : (k : ℕ) (prices : List ℕ) (stand : Stand) (from : ℕ) (line : List Group) → All (λ g. All (λ s. s < length I.ships) g.ships) line → ¬ All (IsSpared sets) line → IsLeastWorth I c cuts k prices stand from line None
+  pub cut-least : (k : ℕ) (prices : PriceList) (stand : Stand) (from : ℕ) (line : List Group) → All (λ g. All (λ s. s < length I.ships) g.ships) line → ¬ All (IsSpared sets) line → IsLeastWorth I c cuts k prices stand from line None
   cut-least k prices stand from line known held = record {
     below = λ loose is.
         let uncut = subst (All (IsUncut I c cuts)) is.trace (uncut-trace I c cuts (has_number (first_ships I k)) loose is.uncut) in

@@ -22,7 +22,7 @@ use Rattle.lock_rules.proofs.CountLemmas.{sum_by-parts}
 use Rattle.lock_rules.proofs.LineLemmas.{sum_by-each}
 use Rattle.lock_rules.proofs.TimetableLemmas.{start_of-lawful, timetable-lawful}
 use Rattle.lock_rules.proofs.TraceLemmas.{Dominates-itself, kept_flow, trace-flow}
-use Rattle.price_rules.specs.Prices.{PlainCut, Spares, IsUncut, is_missing, price_at, paid_by, paid_in}
+use Rattle.price_rules.specs.Prices.{PriceList, PlainCut, Spares, IsUncut, is_missing, price_at, paid_by, paid_in}
 use Rattle.price_groups.specs.Worth.{end_after, worth_of, worth_from, IsHorizon}
 
 sum_by-times : (f : ℕ → ℕ) (xs : List ℕ) → sum_by (λ s. 100 * f s) xs ≡ 100 * sum_by f xs
@@ -65,7 +65,7 @@ module _ (I : Instance) (c : ℕ) (cuts : List PlainCut) where
       put way [] rest all make = all
       put way (k ∷ ks) rest all make = All-cons (IsUncut I c cuts) (record { way = way; ships = k ∷ ks }) rest (make (omega arith)) all
 
-module _ (I : Instance) (c k : ℕ) (prices : List ℕ) where
+module _ (I : Instance) (c k : ℕ) (prices : PriceList) where
   -- a line is worth its first group and the rest
   pub worth-next : (stand : Stand) (from : ℕ) (g : Group) (gs : List Group)
       → worth_from I c k prices stand from (g ∷ gs) ≡ (worth_of I c k prices stand from g +ℤ worth_from I c k prices (stand_after g.way) (end_after I c stand from g) gs)

@@ -14,20 +14,20 @@ use Rattle.lock_rules.specs.Timetable.{first_free, ready_at, last_arrival, start
 use Rattle.lock_rules.specs.Arrival.{first_ships}
 use Rattle.lock_rules.specs.Bound.{flow_of}
 use Rattle.lock_rules.specs.Trace.{has_number}
-use Rattle.price_rules.specs.Prices.{is_missing, price_at, paid_by, paid_in}
+use Rattle.price_rules.specs.Prices.{PriceList, is_missing, price_at, paid_by, paid_in}
 use Rattle.price_rules.proofs.ReachLemmas.{filter-none}
 use Rattle.price_groups.specs.Worth.{arrivals_of, end_after, worth_of, worth_from, IsKeptGroup}
 use Rattle.price_successors.proofs.SumLemmas.{start-sums, worth-sums}
 
 -- a line of the first k ships pays nothing
-pub kept-free : (I : Instance) (k : ℕ) (prices : List ℕ) (line : List Group) → All (IsKeptGroup I k) line → paid_in I k prices line ≡ 0
+pub kept-free : (I : Instance) (k : ℕ) (prices : PriceList) (line : List Group) → All (IsKeptGroup I k) line → paid_in I k prices line ≡ 0
 kept-free I k prices [] own = refl
 kept-free I k prices (g ∷ gs) own =
     let kept = has_number (first_ships I k) in
     let none : filter (is_missing I k) g.ships ≡ [] = filter-none (is_missing I k) g.ships (All-weaker (λ s. kept s ≡ true) (λ s. is_missing I k s ≡ false) (λ s h. ap not h) g.ships (All-head (IsKeptGroup I k) g gs own).kept) in
     omega (arith, ap (sum_by (price_at prices)) none, kept-free I k prices gs (All-tail (IsKeptGroup I k) g gs own))
 
-module _ (I : Instance) (c k : ℕ) (prices : List ℕ) where
+module _ (I : Instance) (c k : ℕ) (prices : PriceList) where
   -- so its worth is its flow time
   pub own-flow : (stand : Stand) (from : ℕ) (line : List Group) (flow : ℕ) → All (IsKeptGroup I k) line → flow_of I line (timetable_from I c stand from line) ≡ flow → flow ≤ SHIPS * 10000000000
       → to_z w64 (100 * flow) ≡ worth_from I c k prices stand from line

@@ -12,7 +12,7 @@ use Rattle.lock_rules.specs.Lawful.{stand_after}
 use Rattle.lock_rules.specs.Arrival.{first_ships}
 use Rattle.lock_rules.specs.Trace.{has_number, with_group, trace_by}
 use Rattle.lock_rules.proofs.LeafLemmas.{trace-whole}
-use Rattle.price_rules.specs.Prices.{PlainCut, IsUncut, IsLoose}
+use Rattle.price_rules.specs.Prices.{PriceList, PlainCut, IsUncut, IsLoose}
 use Rattle.price_successors.specs.declared.successor.Successor.{Successor}
 use Rattle.price_groups.specs.Asks.{LineAsk}
 use Rattle.price_groups.specs.Worth.{end_after, worth_of, worth_from, IsWorth, IsLeastWorth, IsKeptGroup, IsHorizon}
@@ -36,7 +36,7 @@ module _ (L : LineAsk) (known : L.chamber < length L.instance.chambers) where
   abbrev k : ℕ
   k = L.depth
 
-  abbrev prices : List ℕ
+  abbrev prices : PriceList
   prices = L.prices
 
   abbrev line : List Group

@@ -5,7 +5,7 @@ use Rattle.lock_model.specs.declared.instance.Instance.{Instance}
 use Rattle.lock_model.specs.declared.group.Group.{Group}
 use Rattle.lock_model.specs.declared.way.Stand.{Stand}
 use Rattle.lock_rules.specs.Lawful.{stand_after}
-use Rattle.price_rules.specs.Prices.{PlainCut}
+use Rattle.price_rules.specs.Prices.{PriceList, PlainCut}
 use Rattle.price_successors.specs.declared.successor.Successor.{Successor}
 use Rattle.price_table.specs.declared.ready.Ready.{Ready}
 use Rattle.price_table.specs.declared.route.Route.{Route}
@@ -37,7 +37,7 @@ module _ (L : LineAsk) (known : L.chamber < length L.instance.chambers) (horizon
   abbrev k : ℕ
   k = L.depth
 
-  abbrev prices : List ℕ
+  abbrev prices : PriceList
   prices = L.prices
 
   abbrev line : List Group

@@ -6,7 +6,7 @@ use Rattle.std.proofs.lemmas.List.{length-drop}
 use Rattle.lock_model.specs.declared.instance.Instance.{Instance}
 use Rattle.lock_model.specs.declared.group.Group.{Group}
 use Rattle.lock_rules.specs.Lawful.{stand_after}
-use Rattle.price_rules.specs.Prices.{PlainCut, IsLoose}
+use Rattle.price_rules.specs.Prices.{PriceList, PlainCut, IsLoose}
 use Rattle.price_successors.specs.declared.successor.Successor.{Successor}
 use Rattle.price_table.specs.declared.ready.Ready.{Ready}
 use Rattle.price_table.specs.declared.route.Route.{Route}
@@ -31,7 +31,7 @@ module _ (L : LineAsk) (known : L.chamber < length L.instance.chambers) (ready :
   abbrev k : ℕ
   k = L.depth
 
-  abbrev prices : List ℕ
+  abbrev prices : PriceList
   prices = L.prices
 
   abbrev line : List Group

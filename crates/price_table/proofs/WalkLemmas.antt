@@ -8,7 +8,7 @@ use Rattle.std.proofs.lemmas.List.Elements.{All-drop}
 use Rattle.lock_model.specs.declared.instance.Instance.{Instance}
 use Rattle.lock_model.specs.declared.group.Group.{Group}
 use Rattle.lock_model.specs.declared.way.Stand.{Stand}
-use Rattle.price_rules.specs.Prices.{PlainCut, IsUncut}
+use Rattle.price_rules.specs.Prices.{PriceList, PlainCut, IsUncut}
 use Rattle.price_successors.specs.declared.successor.Successor.{Successor}
 use Rattle.price_table.specs.declared.next_group.NextGroup.{NextGroup}
 use Rattle.price_table.specs.declared.next_group.ValuedState.{ValuedState}
@@ -33,7 +33,7 @@ module _ (L : LineAsk) (known : L.chamber < length L.instance.chambers) where
   abbrev k : ℕ
   k = L.depth
 
-  abbrev prices : List ℕ
+  abbrev prices : PriceList
   prices = L.prices
 
   abbrev line : List Group

@@ -26,9 +26,9 @@ use Rattle.price_table.specs.declared.frame.Frame.{Frame}
 use Rattle.price_table.specs.declared.values.Values.{Values}
 
 -- What a line's own groups are worth at most, in hundredths of a minute: those that are served alone take less than
--- 10000000000 minutes each.
+-- 10000000000 minutes each, and are charged 255000000 at the most.
 abbrev pub most_worth : ℕ
-most_worth = SHIPS * 1000000000000
+most_worth = SHIPS * 1000255000000
 
 -- The value of a state: the least worth of what is left of the line from place p on.
 pub record IsValue (L : LineAsk) (horizon : ℕ) (p : ℕ) (stand : Stand) (from : ℕ) (v : ℤ) : Type 0 where

@@ -11,7 +11,7 @@ use crate::ready::Ready;
 use crate::state::State;
 use chamber_times::{flow_until, group_times, stand_after};
 use lock_model::{Group, MOST, SHIPS};
-use price_groups::LineCase;
+use price_groups::{LineCase, charged};
 use price_successors::Successor;
 
 /// The minute at which a successor ends that comes next, and what it is worth, in hundredths of a
@@ -38,15 +38,16 @@ fn product(count: u64, end: u64) -> u64
 fn ended(successor: &Successor, end: u64) -> Served
     requires end { end ≤ 30000000 }
     requires fair { successor.now.pays ≤ 808000000 }
+    requires light { successor.now.charged ≤ 255000000 }
     ensures end { result.end ≡ end }
-    ensures worth { result.worth ≡ (pos (100 * (length successor.now.group.ships * end)) -ℤ pos successor.now.pays) }
+    ensures worth { result.worth ≡ (pos (100 * (length successor.now.group.ships * end) + successor.now.charged) -ℤ pos successor.now.pays) }
     ensures low { neg_ℤ (pos 808000000) ≤ℤ result.worth }
     ensures high { result.worth ≤ℤ pos 30000000000 }
 {
     let sum = product(successor.group.ships.len() as u64, end);
     Served {
         end,
-        worth: (100 * sum) as i64 - successor.pays as i64,
+        worth: (100 * sum + successor.charged as u64) as i64 - successor.pays as i64,
     }
 }
 
@@ -90,7 +91,8 @@ pub(crate) fn serve_open(
     ended(successor, from + successor.duration as u64)
 }
 
-// What some of the line's own groups are worth alone, in hundredths of a minute.
+// What some of the line's own groups are worth alone, with what they are charged, in hundredths of a
+// minute.
 fn alone_on(case: &LineCase, state: &State, line: &[Group]) -> i64
     requires kept { All (IsKeptGroup case.now.instance.now case.now.depth) line.now }
     requires ships_in { All (λ g. All (λ s. s < length case.now.instance.now.ships) g.ships) line.now }
@@ -103,13 +105,15 @@ fn alone_on(case: &LineCase, state: &State, line: &[Group]) -> i64
     let mut stand = state.stand;
     let mut minute = state.minute;
     let mut flow = 0;
+    let mut charges = 0;
     for group in line {
         let (_, end) = group_times(case.instance, case.index, stand, minute, group);
         flow += flow_until(case.instance, &group.ships, end);
+        charges += charged(case.prices, &group.ships) as u64;
         stand = stand_after(group.way);
         minute = end;
     }
-    (100 * flow) as i64
+    (100 * flow + charges) as i64
 }
 
 /// What the line's own groups from the state's place on are worth alone, in hundredths of a minute.

@@ -2,7 +2,7 @@
 use Rattle.std.specs.Prelude.{ℕ, List}
 use Rattle.lock_model.specs.declared.instance.Instance.{Instance}
 use Rattle.lock_rules.specs.Node.{Node}
-use Rattle.price_rules.specs.Prices.{Reaches}
+use Rattle.price_rules.specs.Prices.{PriceList, Reaches}
 use Rattle.sweep_rules.specs.Uncut.{IsSwept}
 use Rattle.price_terms.specs.declared.cut.ChamberCut.{ChamberCut}
 use Rattle.price_terms.specs.Cuts.{plain_cuts}
@@ -11,7 +11,7 @@ use Rattle.price_terms.specs.Cuts.{plain_cuts}
 pub record Claim : Type 0 where
   pub instance : Instance
   pub node : Node
-  pub prices : List ℕ
+  pub prices : PriceList
   pub cuts : List ChamberCut
   pub cost : ℕ
 

@@ -1,26 +1,37 @@
 //! Labels that go on, and what prices bound behind labels.
-ghost use Rattle.std.specs.Prelude.{◌≡◌, ◌+◌, ◌*◌, ◌<◌, length, sum_by, IsTrue, IfOk, OnOk};
+ghost use Rattle.std.specs.Prelude.{◌≡◌, ◌+◌, ◌*◌, ◌<◌, ◌≤◌, if◌then◌else◌, length, sum_by, IsTrue, IfOk, OnOk};
 ghost use Rattle.lock_rules.specs.Arrival.{numbers_from};
-ghost use Rattle.sweep_rules.specs.Gain.{prices_missing};
+ghost use Rattle.lock_rules.specs.Trace.{has_number};
+ghost use Rattle.price_rules.specs.Prices.{has_triple};
+ghost use Rattle.sweep_rules.specs.Gain.{ships_missing, prices_missing, triples_missing};
 ghost use Rattle.sweep_labels.specs.Ships.{is_in};
 ghost use Rattle.sweep_labels.specs.Labels.{label_of};
 ghost use Rattle.sweep_labels.specs.Arcs.{IsGainBehind};
-ghost use Rattle.sweep.specs.Bounds.{cuts_of, gain_in, AreLanes, AreGains, IsBoundAbove, IsRoom};
+ghost use Rattle.sweep.specs.Bounds.{cuts_of, gain_in, AreLanes, AreGains, IsBoundAbove, IsMissing, IsRoom};
 
 use crate::sums::{added, difference, hundredths};
 use crate::sweep_case::SweepCase;
 use lock_model::CHAMBERS;
+use price_rules::Triple;
 use price_terms::PriceError;
 use sweep_arcs::Lane;
 use sweep_labels::{Label, ReadyTimes, ShipSet};
 
-/// A label that goes on, its number, the prices of its missing ships and the gains of the chambers behind it,
+/// The prices of the ships that a label misses, and of the triples of which it misses at least two ships, in
+/// hundredths of a minute.
+#[derive(Clone, Copy)]
+pub(crate) struct Missing {
+    pub(crate) ships: u64,
+    pub(crate) triples: u64,
+}
+
+/// A label that goes on, its number, the prices of what it misses and the gains of the chambers behind it,
 /// in hundredths of a minute.
 #[derive(Drop)]
 pub(crate) struct Origin {
     pub(crate) number: u32,
     pub(crate) label: Label,
-    pub(crate) missing: u64,
+    pub(crate) missing: Missing,
     pub(crate) gains: [u64; CHAMBERS],
 }
 
@@ -86,25 +97,77 @@ pub(crate) fn missing_prices(case: &SweepCase, served: &ShipSet) -> Result<u64, 
     Ok(sum)
 }
 
-// What a plan behind a label costs at least, beside the gains, and a minute more.
-fn cost_by(label: &Label, missing: u64) -> Result<u64, PriceError>
-    ensures { IfOk result (λ all. all ≡ 100 * label.now.flow + 100 + missing) }
+// Whether a ship of the instance isn't served.
+fn misses(case: &SweepCase, served: &ShipSet, ship: u8) -> bool
+    ensures { result ≡ has_number (ships_missing case.now.instance.now (is_in served.now.bits)) ship }
 {
-    let own = label.flow as u64 * 100 + 100;
-    added(own, missing)
+    (ship as usize) < case.instance.ships.as_slice().len() && !served.has(ship)
 }
 
-/// Whether a label's bound is above the goal, by the prices of its missing ships and the gains of the chambers.
+// The price of a triple of which at least two ships aren't served.
+fn open_price(case: &SweepCase, served: &ShipSet, triple: &Triple) -> u32
+    ensures value { result ≡ (if has_triple (ships_missing case.now.instance.now (is_in served.now.bits)) triple.now then triple.now.price else 0) }
+    ensures small { result ≤ triple.now.price }
+{
+    let second = misses(case, served, triple.second);
+    let third = misses(case, served, triple.third);
+    let open = if misses(case, served, triple.first) {
+        second || third
+    } else {
+        second && third
+    };
+    if open { triple.price } else { 0 }
+}
+
+/// The prices of the triples of which at least two ships aren't served, added: ways to go on may have these.
+pub(crate) fn missing_triples(case: &SweepCase, served: &ShipSet) -> u64
+    ensures value { result ≡ triples_missing case.now.instance.now case.now.prices.now (is_in served.now.bits) }
+    ensures small { result ≤ 255000000 }
+{
+    let mut sum = 0;
+    for triple in case.prices.triples() {
+        sum += open_price(case, served, triple) as u64;
+    }
+    sum
+}
+
+/// The prices of what a label misses that serves these ships.
+pub(crate) fn missing_of(case: &SweepCase, served: &ShipSet) -> Result<Missing, PriceError>
+    ensures { IfOk result (IsMissing case.now (is_in served.now.bits)) }
+{
+    Ok(Missing {
+        ships: missing_prices(case, served)?,
+        triples: missing_triples(case, served),
+    })
+}
+
+// What the goal and the gains of chambers come to, with the triples that are missing.
+fn goal_with(goal: u64, gains: u64, missing: Missing) -> Result<u64, PriceError>
+    ensures { IfOk result (λ all. all ≡ 100 * goal + gains + missing.triples) }
+{
+    let own = added(hundredths(goal)?, gains)?;
+    added(own, missing.triples)
+}
+
+// What a plan behind a label costs at least, beside the gains, and a minute more.
+fn cost_by(label: &Label, missing: Missing) -> Result<u64, PriceError>
+    ensures { IfOk result (λ all. all ≡ 100 * label.now.flow + 100 + missing.ships) }
+{
+    let own = label.flow as u64 * 100 + 100;
+    added(own, missing.ships)
+}
+
+/// Whether a label's bound is above the goal, by the prices of what it misses and the gains of the chambers.
 pub(crate) fn is_above(
     case: &SweepCase,
     label: &Label,
-    missing: u64,
+    missing: Missing,
     gains: &[u64; CHAMBERS],
     goal: u64,
 ) -> Result<bool, PriceError>
     ensures { IfOk result (λ above. IsTrue above → IsBoundAbove case.now label.now missing gains.now goal) }
 {
-    let low = added(hundredths(goal)?, sum_of(case, gains)?)?;
+    let low = goal_with(goal, sum_of(case, gains)?, missing)?;
     let high = cost_by(label, missing)?;
     Ok(low < high)
 }
@@ -121,7 +184,7 @@ pub(crate) fn room_of(
     ensures { IfOk result (IsRoom case.now from.now chamber goal) }
 {
     let beside = sum_of(case, &from.gains)?.saturating_sub(from.gains[chamber]);
-    let low = added(hundredths(goal)?, beside)?;
+    let low = goal_with(goal, beside, from.missing)?;
     let high = cost_by(&from.label, from.missing)?;
     let room = difference(low, high)?;
     Ok(room)
@@ -131,11 +194,11 @@ pub(crate) fn room_of(
 pub(crate) fn spread_of(
     case: &SweepCase,
     label: &Label,
-    missing: u64,
+    missing: Missing,
     gains: &[u64; CHAMBERS],
     goal: u64,
 ) -> Result<i64, PriceError> {
-    let low = added(hundredths(goal)?, sum_of(case, gains)?)?;
+    let low = goal_with(goal, sum_of(case, gains)?, missing)?;
     let high = cost_by(label, missing)?;
     difference(low, high)
 }

@@ -9,7 +9,7 @@ ghost use Rattle.sweep_labels.specs.declared.label.KeptLabel.{KeptLabel as AnyLa
 ghost use Rattle.sweep.specs.Bounds.{cuts_of, AreLanes, AreArcsAsked, IsOrigin};
 ghost use Rattle.sweep.specs.Going.{IsSound, IsFurther, IsMetBy, IsBegun, IsArcLed, AreArcsLed, IsWayLed, AreLed};
 
-use crate::origin::{Origin, gains_of, is_above, missing_prices, room_of, spread_of};
+use crate::origin::{Missing, Origin, gains_of, is_above, missing_of, missing_triples, room_of, spread_of};
 use crate::sums::less;
 use crate::sweep_case::SweepCase;
 use lock_model::Way;
@@ -80,7 +80,10 @@ impl Sweeper<'_, '_> {
     {
         let label = gone_on(case.instance, &case.arrivals, &from.label, step)?;
         let gains = gains_of(case, self.lanes, &label)?;
-        let missing = less(from.missing, step.arc.prices)?;
+        let missing = Missing {
+            ships: less(from.missing.ships, step.arc.prices)?,
+            triples: missing_triples(case, &label.served),
+        };
         let above = is_above(case, &label, missing, &gains, self.made.goal)?;
         if above {
             return Ok(());
@@ -220,7 +223,7 @@ impl Sweeper<'_, '_> {
         let Some(missed) = case.first_missing(&label.served) else {
             return Err(PriceError::TooMany);
         };
-        let missing = missing_prices(case, &label.served)?;
+        let missing = missing_of(case, &label.served)?;
         let gains = gains_of(case, self.lanes, &label)?;
         let from = Origin {
             number,
@@ -281,7 +284,7 @@ impl Sweeper<'_, '_> {
         ensures begun { OnOk result (IsBegun case.now self.new.made) }
     {
         let label = first_label(case.instance, &case.arrivals)?;
-        let missing = missing_prices(case, &label.served)?;
+        let missing = missing_of(case, &label.served)?;
         let gains = gains_of(case, self.lanes, &label)?;
         self.spread = spread_of(case, &label, missing, &gains, self.made.goal)?;
         let kept = KeptLabel {

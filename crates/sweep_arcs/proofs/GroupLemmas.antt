@@ -17,7 +17,7 @@ use Rattle.lock_rules.proofs.TimetableLemmas.{last_arrival-least}
 use Rattle.lock_rules.specs.Children.{insert_number}
 use Rattle.lock_rules.proofs.AmongLemmas.{contains-times}
 use Rattle.lock_rules.proofs.TreeLemmas.{length-insert_number}
-use Rattle.price_rules.specs.Prices.{price_at}
+use Rattle.price_rules.specs.Prices.{PriceList, price_at}
 use Rattle.price_groups.specs.Asks.{LineAsk, IsUncutIn, group_ask}
 use Rattle.price_groups.specs.Growing.{IsGrown, IsBase, HasIdler, AreBelow}
 use Rattle.price_groups.specs.GrownLists.{HasGroup, IsGrownGroup, IsGrownList}
@@ -33,10 +33,10 @@ use Rattle.sweep_arcs.specs.Ways.{AreCeilings, IsIdleGroup, AreBefore, IsBrief, 
 earlier : (i j : ℕ) → j ≢ i → j < i + 1 → j < i
 earlier i j other less = elim (leb_tells (suc j) i) [ inl y ↦ y.1 | inr q ↦ absurd (other (omega (arith, less, q.1))) ]
 
-pub ceilings_first : (prices : List ℕ) (spread : ℕ) (ceilings : List ℕ) → AreCeilings prices spread 0 ceilings
+pub ceilings_first : (prices : PriceList) (spread : ℕ) (ceilings : List ℕ) → AreCeilings prices spread 0 ceilings
 ceilings_first prices spread ceilings = record { each = λ s less. absurd (omega (arith, less)); fair = λ s less. absurd (omega (arith, less)) }
 
-pub ceilings_next : (prices : List ℕ) (spread n price own : ℕ) (old : List ℕ) → n < length old → price ≡ price_at prices n → price ≤ 1000000 → own ≡ min 1000000 (price + spread + 1)
+pub ceilings_next : (prices : PriceList) (spread n price own : ℕ) (old : List ℕ) → n < length old → price ≡ price_at prices n → price ≤ 1000000 → own ≡ min 1000000 (price + spread + 1)
     → AreCeilings prices spread n old → AreCeilings prices spread (n + 1) (slice_set old n own)
 ceilings_next prices spread n price own old here is fair raised before = record {
   each = λ s less. elim (eqb_tells s n) [
@@ -50,7 +50,7 @@ ceilings_next prices spread n price own old here is fair raised before = record 
 }
 
 -- what is no more than prices may be isn't capped
-pub ceilings-capped : (prices : List ℕ) (spread : ℕ) (high : List ℕ) → length high ≡ SHIPS → AreCeilings prices spread SHIPS high → AreCeilings prices spread SHIPS (map (min 1000000) high)
+pub ceilings-capped : (prices : PriceList) (spread : ℕ) (high : List ℕ) → length high ≡ SHIPS → AreCeilings prices spread SHIPS high → AreCeilings prices spread SHIPS (map (min 1000000) high)
 ceilings-capped prices spread high count are = record {
   each = λ s less. get_or-map (min 1000000) high s 0 0 (omega (arith, less, count)) ∙ ap (min 1000000) (are.each s less) ∙ twice (price_at prices s + spread + 1);
   fair = are.fair;
@@ -111,7 +111,7 @@ joined_next groups n one old new here is joined more = record {
     either true = refl
     either false = refl
 
-pub below-ceilings : (prices : List ℕ) (spread : ℕ) (ceilings : List ℕ) → length prices ≤ SHIPS → AreCeilings prices spread SHIPS ceilings → AreBelow prices ceilings
+pub below-ceilings : (prices : PriceList) (spread : ℕ) (ceilings : List ℕ) → length prices ≤ SHIPS → AreCeilings prices spread SHIPS ceilings → AreBelow prices ceilings
 below-ceilings prices spread ceilings few are s = elim (leb_tells (suc s) SHIPS) [
   | inl y ↦ omega (arith, are.each s y.1, are.fair s y.1)
   | inr q ↦ omega (arith, get_or_past prices s 0 (omega (arith, q.1, few)))

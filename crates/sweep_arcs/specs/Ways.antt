@@ -8,7 +8,7 @@ use Rattle.lock_model.specs.declared.group.Group.{Group}
 use Rattle.lock_model.specs.declared.way.Way.{Way}
 use Rattle.lock_rules.specs.Children.{insert_number}
 use Rattle.lock_rules.specs.Lawful.{stand_before}
-use Rattle.price_rules.specs.Prices.{price_at}
+use Rattle.price_rules.specs.Prices.{PriceList, price_at}
 use Rattle.price_groups.specs.Asks.{LineAsk, IsUncutIn}
 use Rattle.price_groups.specs.GrownLists.{HasGroup}
 use Rattle.price_groups.specs.Masks.{IsMask}
@@ -28,7 +28,7 @@ use Rattle.sweep_arcs.specs.declared.way_arcs.WayArcs.{WayArcs}
 use Rattle.sweep_arcs.specs.declared.way_lane.WayLane.{WayLane}
 
 -- of the first n ships the prices, raised by more than the spread as far as prices may be
-pub record AreCeilings (prices : List ℕ) (spread n : ℕ) (ceilings : List ℕ) : Type 0 where
+pub record AreCeilings (prices : PriceList) (spread n : ℕ) (ceilings : PriceList) : Type 0 where
   pub each : (s : ℕ) → s < n → price_at ceilings s ≡ min 1000000 (price_at prices s + spread + 1)
   pub fair : (s : ℕ) → s < n → price_at prices s ≤ 1000000
 

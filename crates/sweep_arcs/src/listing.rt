@@ -12,7 +12,7 @@ use crate::gains::{Gains, other_way, stand_before};
 use crate::way_groups::WayGroups;
 use chamber_times::{flow_until, group_times};
 use lock_model::{Ships, Way};
-use price_groups::{GrownGroup, LineCase};
+use price_groups::{GrownGroup, LineCase, charge};
 use price_terms::{PriceError, append};
 use std::alloc::Global;
 use sweep_labels::{Arc, ShipSet, minute_of};
@@ -38,16 +38,17 @@ fn paid(case: &LineCase, ships: &Ships) -> u64
     sum
 }
 
-// What a group is worth that has this flow time and these prices and this gain behind it, in hundredths of a minute.
-fn worth(flow: u32, prices: u64, gain: u64) -> Result<i64, PriceError>
-    requires { prices ≤ 8000000 }
-    ensures least { IfOk result (λ worth. (worth +ℤ pos (prices + gain)) ≤ℤ pos (100 * flow)) }
+// What a group is worth that has this flow time and these prices, is charged so and has this gain behind it, in hundredths of a minute.
+fn worth(flow: u32, prices: u64, charged: u32, gain: u64) -> Result<i64, PriceError>
+    requires paid { prices ≤ 8000000 }
+    requires charged { charged ≤ 255000000 }
+    ensures least { IfOk result (λ worth. (worth +ℤ pos (prices + gain)) ≤ℤ pos (100 * flow + charged)) }
     ensures fits { IfOk result (λ worth. pos 0 ≤ℤ (worth +ℤ pos (2 ^ 63))) }
 {
     let Ok(gain) = i64::try_from(gain) else {
         return Err(PriceError::TooMany);
     };
-    let own = flow as i64 * 100 - prices as i64;
+    let own = flow as i64 * 100 + charged as i64 - prices as i64;
     match own.checked_sub(gain) {
         Some(worth) => Ok(worth),
         None => Err(PriceError::TooMany),
@@ -74,7 +75,8 @@ fn arc_of(
     let flow = minute_of(flow_until(case.instance, &group.ships, end))?;
     let prices = paid(case, &group.ships);
     let gain = gains.at(other_way(group.way), end)?;
-    let worth = worth(flow, prices, gain)?;
+    let charged = charge(case.prices, one.sums.mask);
+    let worth = worth(flow, prices, charged, gain)?;
     Ok(Arc {
         ships: ShipSet {
             bits: one.sums.mask,

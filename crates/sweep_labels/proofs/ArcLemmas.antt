@@ -6,7 +6,7 @@ use Rattle.lock_model.specs.declared.instance.Instance.{Instance}
 use Rattle.lock_model.specs.declared.group.Group.{Group}
 use Rattle.lock_rules.specs.Arrival.{numbers_from}
 use Rattle.lock_rules.specs.Lawful.{stand_after}
-use Rattle.price_rules.specs.Prices.{PlainCut, price_at}
+use Rattle.price_rules.specs.Prices.{PriceList, PlainCut, price_at}
 use Rattle.sweep_rules.specs.Label.{Label, CanGoOn, IsGoneOn, end_on, flow_on}
 use Rattle.sweep_rules.specs.Completion.{EndsBelow}
 use Rattle.sweep_rules.specs.Gain.{IsGainFrom, IsGain, prices_missing}
@@ -20,7 +20,7 @@ own-gain gains c own d same = elim (eqb_tells d c) [ inl y ↦ ap {B = ℕ} (λ 
 pub other-gain : (gains : ℕ → ℕ) (c own d : ℕ) → d ≢ c → gains_with gains c own d ≡ gains d
 other-gain gains c own d other = elim (eqb_tells d c) [ inl y ↦ absurd (other y.1) | inr m ↦ ap {B = ℕ} (λ b. cond b own (gains d)) m.0 ]
 
-module _ (I : Instance) (cuts : List PlainCut) (label next : Label) (c : ℕ) (g : Group) (can : CanGoOn I cuts label c g) (gone : IsGoneOn I cuts label c g next) (prices : List ℕ) where
+module _ (I : Instance) (cuts : List PlainCut) (label next : Label) (c : ℕ) (g : Group) (can : CanGoOn I cuts label c g) (gone : IsGoneOn I cuts label c g next) (prices : PriceList) where
   -- THE ROOM IS NO LESS than what the goal leaves beside the label, the missing ships and the other chambers' gains, which count none for chamber c:
   -- a group that is worth more leads to no label with a completion below the goal.
   pub arc-beyond : (gains : ℕ → ℕ) → ((d : ℕ) → d < length I.chambers → d ≢ c → IsGain I d cuts label prices (gains d)) → gains c ≡ 0 → (goal : ℕ) (room worth : ℤ)

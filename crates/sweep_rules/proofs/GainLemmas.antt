@@ -19,15 +19,16 @@ use Rattle.lock_rules.proofs.CountLemmas.{sum_by-counts, times_in-append, times_
 use Rattle.lock_rules.proofs.LeafLemmas.{sum_by-flat_map}
 use Rattle.lock_rules.proofs.LeafLemmas.{has_number-some}
 use Rattle.lock_rules.proofs.SplitLemmas.{All-times, has_number-none, RisesFrom-increasing}
-use Rattle.lock_rules.proofs.LineLemmas.{sum_by-zero}
-use Rattle.price_rules.specs.Prices.{PlainCut, IsUncut, IsLoose, price_at, paid_in}
+use Rattle.lock_rules.proofs.LineLemmas.{sum_by-each, sum_by-plus, sum_by-zero}
+use Rattle.price_rules.specs.Prices.{PlainCut, IsUncut, IsLoose, PriceList, price_at, paid_in, charged_on, charged_in}
+use Rattle.price_rules.proofs.ChargeLemmas.{one, has-times, charged-among, charged-parts}
 use Rattle.sweep_rules.specs.Uncut.{times_over}
 use Rattle.sweep_rules.specs.Label.{Label, IsWanted, CanGoOn, IsGoneOn, end_on, flow_on}
 use Rattle.sweep_rules.specs.Completion.{IsCompletion, EndsBelow, flow_starting}
-use Rattle.sweep_rules.specs.Gain.{IsWayOn, IsGainFrom, IsGain, IsAbove, timetable_after, ships_missing, prices_missing}
+use Rattle.sweep_rules.specs.Gain.{IsWayOn, IsGainFrom, IsGain, IsAbove, timetable_after, ships_missing, prices_missing, triples_missing}
 use Rattle.sweep_rules.proofs.FlowLemmas.{flow-after, flow-later, flow-ready, flow-minutes}
 use Rattle.sweep_rules.proofs.GoingLemmas.{still-missing, others-later}
-use Rattle.sweep_rules.proofs.MissingLemmas.{ships_of, times_in-ships_of, paid-ships, missing-counts, missing-one, missing-none, missing-past, times_on-past, times_in-flat}
+use Rattle.sweep_rules.proofs.MissingLemmas.{ships_of, times_in-ships_of, paid-ships, missing-counts, missing-one, missing-none, missing-past, missing-has, times_on-past, times_in-flat}
 use Rattle.sweep_rules.proofs.OverLemmas.{sum-same, completion-on, rising-once}
 use Rattle.sweep_rules.proofs.ReadyLemmas.{way_on-head, uncut-ship, ship-wanted}
 
@@ -44,7 +45,25 @@ sum-bounded p f g low (suc n) each =
       sum_by-cons g low (numbers_from (suc low) n),
     )
 
+-- a line is charged group by group
+charged-line : (prices : PriceList) (gs : List Group) → charged_in prices gs ≡ sum_by (λ g. charged_on prices g.ships) gs
+charged-line prices [] = refl
+charged-line prices (g ∷ gs) = omega (arith, charged-line prices gs, sum_by-cons (λ (g : Group). charged_on prices g.ships) g gs)
+
+-- groups have a ship no oftener than it stands in them
+stands-times : (s : ℕ) (gs : List Group) → sum_by (λ (g : Group). one (has_number g.ships s)) gs ≤ times_on s gs
+stands-times s [] = omega arith
+stands-times s (g ∷ gs) = omega (arith, stands-times s gs, has-times g.ships s, sum_by-cons (λ (g : Group). one (has_number g.ships s)) g gs)
+
 module _ (I : Instance) (cuts : List PlainCut) (label : Label) where
+  -- a completion has each missing ship once, and no other
+  pub completion-counts : (lines : ℕ → List Group) (starts : ℕ → List ℕ) → IsCompletion I cuts label lines starts → (s : ℕ) → times_over I s lines ≡ times_in (ships_missing I label.served) s
+  completion-counts lines starts completion =
+      let m = length I.chambers in
+      let past : (s : ℕ) → length I.ships ≤ s → times_over I s lines ≡ 0 =
+      λ s out. sum-same (λ c. times_on s (lines c)) (λ c. 0) 0 m (λ c low less. times_on-past I (lines c) (λ j d here. (completion.uncut c (omega (arith, less)) j d here).known) s out) ∙ sum_by-zero (numbers_from 0 m) in
+      missing-counts I label.served (λ s. times_over I s lines) (λ s known. completion.once s known) past
+
   -- a completion's sum over its ships is that over the missing ships
   pub completion-sum : (f : ℕ → ℕ) (lines : ℕ → List Group) (starts : ℕ → List ℕ) → IsCompletion I cuts label lines starts
       → sum_by (λ c. sum_by f (ships_of (lines c))) (numbers_from 0 (length I.chambers)) ≡ sum_by f (ships_missing I label.served)
@@ -53,31 +72,60 @@ module _ (I : Instance) (cuts : List PlainCut) (label : Label) where
       let all : List ℕ = flat_map (λ c. ships_of (lines c)) (numbers_from 0 m) in
       let count : (s : ℕ) → times_in all s ≡ times_over I s lines =
       λ s. times_in-flat (λ c. ships_of (lines c)) (numbers_from 0 m) s ∙ (λ i. sum_by (λ c. times_in-ships_of (lines c) s i) (numbers_from 0 m)) in
-      let past : (s : ℕ) → length I.ships ≤ s → times_over I s lines ≡ 0 =
-      λ s out. sum-same (λ c. times_on s (lines c)) (λ c. 0) 0 m (λ c low less. times_on-past I (lines c) (λ j d here. (completion.uncut c (omega (arith, less)) j d here).known) s out) ∙ sum_by-zero (numbers_from 0 m) in
       sym (sum_by-flat_map f (λ c. ships_of (lines c)) (numbers_from 0 m))
-      ∙ sum_by-counts f all (ships_missing I label.served)
-      (missing-counts I label.served (times_in all) (λ s known. count s ∙ completion.once s known) (λ s out. count s ∙ past s out))
+      ∙ sum_by-counts f all (ships_missing I label.served) (λ s. count s ∙ completion-counts lines starts completion s)
 
   -- and it pays for each missing ship once
-  pub completion-paid : (prices : List ℕ) (lines : ℕ → List Group) (starts : ℕ → List ℕ) → IsCompletion I cuts label lines starts
+  pub completion-paid : (prices : PriceList) (lines : ℕ → List Group) (starts : ℕ → List ℕ) → IsCompletion I cuts label lines starts
       → sum_by (λ c. paid_in I 0 prices (lines c)) (numbers_from 0 (length I.chambers)) ≡ prices_missing I prices label.served
   completion-paid prices lines starts completion =
       (λ i. sum_by (λ c. paid-ships I prices (lines c) i) (numbers_from 0 (length I.chambers))) ∙ completion-sum (price_at prices) lines starts completion
 
+  -- and it is charged for the triples that are missing at most once
+  pub completion-charged : (prices : PriceList) (lines : ℕ → List Group) (starts : ℕ → List ℕ) → IsCompletion I cuts label lines starts
+      → sum_by (λ c. charged_in prices (lines c)) (numbers_from 0 (length I.chambers)) ≤ triples_missing I prices label.served
+  completion-charged prices lines starts completion =
+      let cs = numbers_from 0 (length I.chambers) in
+      let missing = ships_missing I label.served in
+      let parts : sum_by (λ c. charged_in prices (lines c)) cs ≡ sum_by (λ c. sum_by (λ (g : Group). charged_on prices g.ships) (lines c)) cs = λ i. sum_by (λ c. charged-line prices (lines c) i) cs in
+      let flat = sum_by-flat_map (λ (g : Group). charged_on prices g.ships) lines cs in
+      omega (arith, parts, flat, charged-among (λ (g : Group). g.ships) (flat_map lines cs) (has_number missing) each prices)
+    where
+      each : (s : ℕ) → sum_by (λ (g : Group). one (has_number g.ships s)) (flat_map lines (numbers_from 0 (length I.chambers))) ≤ one (has_number (ships_missing I label.served) s)
+      each s =
+          let cs = numbers_from 0 (length I.chambers) in
+          let stands : ℕ → ℕ = λ c. sum_by (λ (g : Group). one (has_number g.ships s)) (lines c) in
+          let below : All (λ c. stands c ≤ times_on s (lines c)) cs = λ j d here. stands-times s (lines (slice_index_or cs j d)) in
+          missing-has I label.served (sum_by (λ (g : Group). one (has_number g.ships s)) (flat_map lines cs)) s
+          (omega (
+            arith,
+            sum_by-flat_map (λ (g : Group). one (has_number g.ships s)) lines cs,
+            sum_by-each stands (λ c. times_on s (lines c)) cs below,
+            completion-counts lines starts completion s,
+          ))
+
   -- A LABEL ABOVE ITS BOUND has no completion of a total below the goal.
-  pub above-none : (prices : List ℕ) (gains : ℕ → ℕ) → ((c : ℕ) → c < length I.chambers → IsGain I c cuts label prices (gains c)) → (goal : ℕ) → IsAbove I label prices gains goal → EndsBelow I cuts goal label → ⊥
+  pub above-none : (prices : PriceList) (gains : ℕ → ℕ) → ((c : ℕ) → c < length I.chambers → IsGain I c cuts label prices (gains c)) → (goal : ℕ) → IsAbove I label prices gains goal → EndsBelow I cuts goal label → ⊥
   above-none prices gains bounds goal above ends =
       let m = length I.chambers in
       let flow : ℕ → ℕ = λ c. flow_starting I c (ends.lines c) (ends.starts c) in
-      let high = sum-bounded (λ c. paid_in I 0 prices (ends.lines c)) flow gains 0 m (λ c low less.
+      let charged : ℕ → ℕ = λ c. charged_in prices (ends.lines c) in
+      let high = sum-bounded (λ c. paid_in I 0 prices (ends.lines c)) flow (λ c. charged c + gains c) 0 m (λ c low less.
       let known : c < m = omega arith in
       omega (
         arith,
         (bounds c known).high (ends.lines c) (completion-on I cuts label ends.lines ends.starts ends.is c known),
         flow-after I c known (label.ready c) (ends.lines c) (ends.starts c) (ends.is.lawful c known),
       )) in
-      absurd (omega (arith, high, completion-paid prices ends.lines ends.starts ends.is, above.high, ends.below))
+      absurd (omega (
+        arith,
+        high,
+        sum_by-plus charged gains (numbers_from 0 m),
+        completion-paid prices ends.lines ends.starts ends.is,
+        completion-charged prices ends.lines ends.starts ends.is,
+        above.high,
+        ends.below,
+      ))
 
 -- fewer missing ships leave fewer ways to go on
 pub way_on-fewer : (I : Instance) (c : ℕ) (cuts : List PlainCut) (served more : ℕ → Bool) → ((s : ℕ) → s < length I.ships → more s ≡ false → served s ≡ false) → (gs : List Group) → IsWayOn I c cuts more gs → IsWayOn I c cuts served gs
@@ -89,7 +137,7 @@ way_on-fewer I c cuts served more fewer gs on = record {
 }
 
 -- A GAIN FROM A STATE stays one from later minutes, with fewer missing ships, and with more gain.
-pub gain_from-later : (I : Instance) (c : ℕ) → c < length I.chambers → (cuts : List PlainCut) (served more : ℕ → Bool) (prices : List ℕ) (stand : Stand) (from later gain greater : ℕ)
+pub gain_from-later : (I : Instance) (c : ℕ) → c < length I.chambers → (cuts : List PlainCut) (served more : ℕ → Bool) (prices : PriceList) (stand : Stand) (from later gain greater : ℕ)
     → ((s : ℕ) → s < length I.ships → more s ≡ false → served s ≡ false) → from ≤ later → gain ≤ greater
     → IsGainFrom I c cuts served prices stand from gain → IsGainFrom I c cuts more prices stand later greater
 gain_from-later I c known cuts served more prices stand from later gain greater fewer early less bound = record {
@@ -97,15 +145,15 @@ gain_from-later I c known cuts served more prices stand from later gain greater 
 }
 
 -- A LABEL'S GAIN of a chamber is at most the greater of those from its two minutes.
-pub gain-ways : (I : Instance) (c : ℕ) (cuts : List PlainCut) (label : Label) (prices : List ℕ) (gain : ℕ)
+pub gain-ways : (I : Instance) (c : ℕ) (cuts : List PlainCut) (label : Label) (prices : PriceList) (gain : ℕ)
     → ((way : Way) → IsGainFrom I c cuts label.served prices (stand_before way) (label.ready c way) gain) → IsGain I c cuts label prices gain
 gain-ways I c cuts label prices gain bounds = record { high = λ gs on. each gs on }
   where
-    each : (gs : List Group) → IsWayOn I c cuts label.served gs → paid_in I 0 prices gs ≤ 100 * flow_of I gs (timetable_after I c (label.ready c) gs) + gain
+    each : (gs : List Group) → IsWayOn I c cuts label.served gs → paid_in I 0 prices gs ≤ 100 * flow_of I gs (timetable_after I c (label.ready c) gs) + charged_in prices gs + gain
     each [] on = omega arith
     each (g ∷ gs) on = (bounds g.way).high (g ∷ gs) on
 
-module _ (I : Instance) (cuts : List PlainCut) (label next : Label) (c : ℕ) (g : Group) (can : CanGoOn I cuts label c g) (gone : IsGoneOn I cuts label c g next) (prices : List ℕ) where
+module _ (I : Instance) (cuts : List PlainCut) (label next : Label) (c : ℕ) (g : Group) (can : CanGoOn I cuts label c g) (gone : IsGoneOn I cuts label c g next) (prices : PriceList) where
   -- the first group of a way to go on has a wanted ship
   first-wanted : (d : ℕ) (gs : List Group) → IsWayOn I d cuts next.served gs → (h : Group) (rest : List Group) → gs ≡ h ∷ rest → (s : ℕ) × IsWanted I cuts next.served d h.way s
   first-wanted d gs on h rest line =
@@ -137,13 +185,11 @@ module _ (I : Instance) (cuts : List PlainCut) (label next : Label) (c : ℕ) (g
     );
   }
 
-  -- a sum over the missing ships is that over those of the group and those that are still missing
-  pub missing-sum : (f : ℕ → ℕ) → sum_by f (ships_missing I label.served) ≡ sum_by f (ships_missing I next.served) + sum_by f g.ships
-  missing-sum f =
+  -- the missing ships are those of the group and those that are still missing
+  missing-both : (s : ℕ) → times_in (ships_missing I next.served ++ g.ships) s ≡ times_in (ships_missing I label.served) s
+  missing-both =
       let left = ships_missing I next.served in
-      sym (sum_by-counts f (left ++ g.ships) (ships_missing I label.served)
-      (missing-counts I label.served (times_in (left ++ g.ships)) (λ s known. both s known) (λ s past. times_in-append left g.ships s ∙ outside s past)))
-      ∙ sum_by-append f left g.ships
+      missing-counts I label.served (times_in (left ++ g.ships)) (λ s known. both s known) (λ s past. times_in-append left g.ships s ∙ outside s past)
     where
       differ : true ≡ false → ⊥
       differ e = cc
@@ -178,16 +224,32 @@ module _ (I : Instance) (cuts : List PlainCut) (label next : Label) (c : ℕ) (g
           (has_number-some g.ships s) (has_number-none g.ships s)
           (rising-once 0 g.ships (RisesFrom-increasing g.ships can.uncut.good.rising) s)
 
+  -- a sum over the missing ships is that over those of the group and those that are still missing
+  pub missing-sum : (f : ℕ → ℕ) → sum_by f (ships_missing I label.served) ≡ sum_by f (ships_missing I next.served) + sum_by f g.ships
+  missing-sum f =
+      let left = ships_missing I next.served in
+      sym (sum_by-counts f (left ++ g.ships) (ships_missing I label.served) missing-both) ∙ sum_by-append f left g.ships
+
+  -- the triples that the group has aren't missing any more
+  pub missing-charged : triples_missing I prices next.served + charged_on prices g.ships ≤ triples_missing I prices label.served
+  missing-charged =
+      let left = ships_missing I next.served in
+      charged-parts prices (has_number left) (has_number g.ships) (has_number (ships_missing I label.served)) (λ s.
+      missing-has I label.served (one (has_number left s) + one (has_number g.ships s)) s
+      (omega (arith, has-times left s, has-times g.ships s, times_in-append left g.ships s, missing-both s)))
+
   -- so the group pays for its ships, and the others are still missing
   pub missing-paid : prices_missing I prices label.served ≡ prices_missing I prices next.served + sum_by (price_at prices) g.ships
   missing-paid = missing-sum (price_at prices)
 
   -- A GROUP WHOSE OWN SUM IS ABOVE THE GOAL leads to no label that has a completion of a total below it.
   pub arc-none : (gains : ℕ → ℕ) → ((d : ℕ) → d < length I.chambers → d ≢ c → IsGain I d cuts label prices (gains d)) → IsGainFrom I c cuts label.served prices (stand_after g.way) (end_on I label c g) (gains c)
-      → (goal : ℕ) → 100 * goal + sum_by gains (numbers_from 0 (length I.chambers)) + sum_by (price_at prices) g.ships < 100 * (label.flow + flow_on I label c g) + prices_missing I prices label.served + 100
+      → (goal : ℕ)
+      → 100 * goal + sum_by gains (numbers_from 0 (length I.chambers)) + triples_missing I prices label.served + sum_by (price_at prices) g.ships
+      < 100 * (label.flow + flow_on I label c g) + charged_on prices g.ships + prices_missing I prices label.served + 100
       → EndsBelow I cuts goal next → ⊥
   arc-none gains others own goal above =
-      above-none I cuts next prices gains bounds goal (record { high = omega (arith, above, missing-paid, gone.flow) })
+      above-none I cuts next prices gains bounds goal (record { high = omega (arith, above, missing-paid, missing-charged, gone.flow) })
     where
       bounds : (d : ℕ) → d < length I.chambers → IsGain I d cuts next prices (gains d)
       bounds d known =
@@ -211,8 +273,8 @@ uncut-loose I c cuts gs uncut = record { uncut = uncut; trace = nothing gs }
     nothing (g ∷ gs) = (λ i. with_group g.way (none g.ships i) (trace_of [] gs)) ∙ nothing gs
 
 -- THE LEAST WORTH OF THE ROOT'S LOOSE LINES from a state is a gain from it.
-pub gain_from-least : (I : Instance) (c : ℕ) (cuts : List PlainCut) (prices : List ℕ) (stand : Stand) (from gain : ℕ) (least : ℤ)
-    → ((gs : List Group) → IsLoose I c cuts 0 [] gs → least ≤ℤ (pos (100 * flow_of I gs (timetable_from I c stand from gs)) -ℤ pos (paid_in I 0 prices gs)))
+pub gain_from-least : (I : Instance) (c : ℕ) (cuts : List PlainCut) (prices : PriceList) (stand : Stand) (from gain : ℕ) (least : ℤ)
+    → ((gs : List Group) → IsLoose I c cuts 0 [] gs → least ≤ℤ (pos (100 * flow_of I gs (timetable_from I c stand from gs) + charged_in prices gs) -ℤ pos (paid_in I 0 prices gs)))
     → pos 0 ≤ℤ (least +ℤ pos gain) → IsGainFrom I c cuts (λ s. false) prices stand from gain
 gain_from-least I c cuts prices stand from gain least below high = record {
   high = λ gs on.

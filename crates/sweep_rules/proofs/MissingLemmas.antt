@@ -10,8 +10,11 @@ use Rattle.lock_rules.specs.Plan.{times_in}
 use Rattle.lock_rules.specs.Arrival.{numbers_from}
 use Rattle.lock_rules.specs.Node.{times_on}
 use Rattle.lock_rules.proofs.CountLemmas.{times_in-append, times_in-between, times_in-above, times_in-outside}
+use Rattle.lock_rules.specs.Trace.{has_number}
+use Rattle.lock_rules.proofs.LeafLemmas.{has_number-some}
 use Rattle.lock_rules.proofs.TreeLemmas.{times_in-miss}
-use Rattle.price_rules.specs.Prices.{is_missing, price_at, paid_by, paid_in}
+use Rattle.price_rules.proofs.ChargeLemmas.{one}
+use Rattle.price_rules.specs.Prices.{PriceList, is_missing, price_at, paid_by, paid_in}
 use Rattle.sweep_rules.specs.Gain.{ships_missing}
 
 -- all ships of some groups
@@ -28,7 +31,7 @@ none_first : (I : Instance) (ss : List ℕ) → filter (is_missing I 0) ss ≡ s
 none_first I [] = refl
 none_first I (s ∷ ss) = ap (λ rest. s ∷ rest) (none_first I ss)
 
-pub paid-ships : (I : Instance) (prices : List ℕ) (gs : List Group) → paid_in I 0 prices gs ≡ sum_by (price_at prices) (ships_of gs)
+pub paid-ships : (I : Instance) (prices : PriceList) (gs : List Group) → paid_in I 0 prices gs ≡ sum_by (price_at prices) (ships_of gs)
 paid-ships I prices [] = refl
 paid-ships I prices (g ∷ gs) =
     let own : paid_by I 0 prices g ≡ sum_by (price_at prices) g.ships = ap (sum_by (price_at prices)) (none_first I g.ships) in
@@ -78,6 +81,26 @@ module _ (I : Instance) (served : ℕ → Bool) where
         | true ↦ λ is. missing-none s is
         | false ↦ λ out. times_in-kept (λ s. not (served s)) (numbers_from 0 (length I.ships)) s (ap not out) ∙ times_in-above 0 (length I.ships) s (omega (arith, past))
       ] refl
+
+  -- no ship is missing twice
+  pub missing-most : (s : ℕ) → times_in (ships_missing I served) s ≤ 1
+  missing-most s =
+      elim (leb_tells (length I.ships) s) [
+        | inl past ↦ omega (arith, missing-past s past.1)
+        | inr known ↦ by (served s) (missing-none s) (missing-one s known.1)
+      ]
+    where
+      by : (b : Bool) → (b ≡ true → times_in (ships_missing I served) s ≡ 0) → (b ≡ false → times_in (ships_missing I served) s ≡ 1) → times_in (ships_missing I served) s ≤ 1
+      by true none once = omega (arith, none refl)
+      by false none once = omega (arith, once refl)
+
+  -- so what counts no more than it stands among them counts no more than whether it does
+  pub missing-has : (few s : ℕ) → few ≤ times_in (ships_missing I served) s → few ≤ one (has_number (ships_missing I served) s)
+  missing-has few s less =
+      elim (leb_tells 1 (times_in (ships_missing I served) s)) [
+        | inl some ↦ omega (arith, less, missing-most s, ap one (has_number-some (ships_missing I served) s some.1))
+        | inr none ↦ omega (arith, less, none.1)
+      ]
 
   -- numbers that count each missing ship once and no other count as the missing ships do
   pub missing-counts : (count : ℕ → ℕ) → ((s : ℕ) → s < length I.ships → count s ≡ cond (served s) 0 1) → ((s : ℕ) → length I.ships ≤ s → count s ≡ 0) → (s : ℕ) → count s ≡ times_in (ships_missing I served) s

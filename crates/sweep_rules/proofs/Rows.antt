@@ -13,7 +13,7 @@ use Rattle.lock_rules.specs.Children.{single}
 use Rattle.lock_rules.specs.Node.{times_on}
 use Rattle.lock_rules.specs.Bound.{flow_of}
 use Rattle.lock_rules.proofs.NodeLemmas.{increasing-RisesFrom}
-use Rattle.price_rules.specs.Prices.{price_at, Spares, IsUncut, flow_over, paid_in}
+use Rattle.price_rules.specs.Prices.{PriceList, price_at, Spares, IsUncut, flow_over, paid_in}
 use Rattle.sweep_rules.specs.Uncut.{IsUncutPlan, IsSwept, times_over}
 use Rattle.sweep_rules.specs.Label.{Label, IsFirstLabel, CanGoOn, IsGoneOn, gone_on, end_on, flow_on}
 use Rattle.sweep_rules.specs.Completion.{EndsBelow}
@@ -226,8 +226,8 @@ second_row-serves : ServesFor row [] second_row later_row
 second_row-serves = record { served = λ s known. refl; ready = λ c known way s wanted. omega arith; flow = omega arith }
 
 -- ---- prices of 35 minutes: no line pays more than its flow time, so nothing ends below 105
-abbrev row_prices : List ℕ
-row_prices = 3500 ∷ 3500 ∷ 3500 ∷ []
+abbrev row_prices : PriceList
+row_prices = record { ships = 3500 ∷ 3500 ∷ 3500 ∷ []; triples = [] }
 
 paid-step : (stand : Stand) (from s : ℕ) (gs : List Group) → s < 3 → ((later : ℕ) → paid_in row 0 row_prices gs ≤ 100 * flow_of row gs (timetable_from row 0 High later gs))
     → paid_in row 0 row_prices (up s ∷ gs) ≤ 100 * flow_of row (up s ∷ gs) (timetable_from row 0 stand from (up s ∷ gs))

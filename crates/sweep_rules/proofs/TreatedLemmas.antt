@@ -40,7 +40,7 @@ count-gone I cuts label next c g can gone =
     let one : ℕ → ℕ = λ s. 1 in
     omega (
       arith,
-      missing-sum I cuts label next c g can gone [] one,
+      missing-sum I cuts label next c g can gone (record { ships = []; triples = [] }) one,
       length-sum (ships_missing I label.served),
       length-sum (ships_missing I next.served),
       length-sum g.ships,

@@ -4,7 +4,7 @@ use Rattle.lock_rules.specs.Node.{Node}
 use Rattle.price_rules.specs.Prices.{Reaches}
 use Rattle.price_rules.proofs.ReachLemmas.{reached-stays}
 use Rattle.price_terms.specs.Cuts.{plain_cuts}
-use Rattle.price_bound.proofs.BelowLemmas.{reached-below}
+use Rattle.price_rules.proofs.BelowLemmas.{reached-below}
 use Rattle.price_bound.proofs.showing.shown_below.Goals as goal
 
 pub new-requires : goal.new-requires

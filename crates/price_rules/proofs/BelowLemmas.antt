@@ -1,4 +1,5 @@
--- What the root reaches each node reaches: its loose lines are loose lines of the root, and its own ships pay the same in both.
+-- What the root reaches each node reaches: its loose lines are loose lines of the root, its own ships pay the same in both, and groups are
+-- charged the same at both.
 use Rattle.std.proofs.Common.{◌≡◌, ℕ, zero, suc, ◌+◌, ◌<◌, ◌≤◌, List, [], ◌∷◌, length, All, sum_by, filter, refl, sym, ap, ◌∙◌, arith}
 use Rattle.std.proofs.lemmas.List.{take-append-drop}
 use Rattle.std.proofs.lemmas.List.Sums.{sum_by-append, sum_by-cons}
@@ -14,7 +15,7 @@ use Rattle.lock_rules.proofs.LineLemmas.{sum_by-each, sum_by-plus, sum_by-zero, 
 use Rattle.lock_rules.proofs.SizeLemmas.{line_ships, lines_ships, times_in-lines}
 use Rattle.lock_rules.proofs.SplitLemmas.{filter-all}
 use Rattle.lock_rules.proofs.ThroughputLemmas.{sum_by-shifted}
-use Rattle.price_rules.specs.Prices.{PlainCut, AreLoose, Reaches, is_missing, price_at, paid_in, paid_of, missing_prices}
+use Rattle.price_rules.specs.Prices.{PlainCut, PriceList, AreLoose, Reaches, is_missing, price_at, paid_in, paid_of, missing_prices}
 
 -- no ships are left of a line where none is kept
 none-traced : (line : List Group) → trace_of [] line ≡ []
@@ -42,7 +43,7 @@ module _ (I : Instance) (cuts : List PlainCut) (k : ℕ) (lines : List (List Gro
     };
   }
 
-  module _ (prices : List ℕ) where
+  module _ (prices : PriceList) where
     abbrev price_of : List ℕ → ℕ
     price_of ships = sum_by (price_at prices) ships
 
