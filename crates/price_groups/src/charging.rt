@@ -6,8 +6,8 @@ ghost use Rattle.lock_rules.specs.Trace.{has_number};
 ghost use Rattle.price_rules.specs.Prices.{has_triple, charged_on};
 ghost use Rattle.price_groups.specs.Masks.{IsMask};
 
-use crate::masks::ShipMask;
-use lock_model::SHIPS;
+use crate::masks::{ShipMask, mask_of};
+use lock_model::{SHIPS, Ships};
 use price_rules::Triple;
 use price_terms::Prices;
 
@@ -70,4 +70,13 @@ pub fn charge(prices: &Prices, mask: ShipMask) -> u32
         sum += charge_for(triple, mask);
     }
     sum
+}
+
+/// What ships are charged for the triples that have prices, in hundredths of a minute.
+pub fn charged(prices: &Prices, ships: &Ships) -> u32
+    requires { All (λ s. s < SHIPS) ships.now }
+    ensures value { result ≡ charged_on prices.now ships.now }
+    ensures small { result ≤ 255000000 }
+{
+    charge(prices, mask_of(ships.as_slice()))
 }

@@ -5,7 +5,7 @@
 //! `list_for` grows a group of the chamber's line, or none, by missing ships in all ways that hold no
 //! forbidden set, by what an `Extension` says; groups of which a ship gains nothing at prices that are no
 //! lower are left out. So lists serve until prices rise above these, whatever triples have prices: fewer
-//! ships are charged no more. `charge` gives what a group is charged.
+//! ships are charged no more. `charge` and `charged` give what a group is charged.
 //!
 //! Definitions: `price_rules` says what uncut groups are. Here `specs/Asks` says once what is asked of a
 //! chamber's line (`LineAsk`) and of its groups (`GroupAsk`), and `Asked` what a `LineCase` and an
@@ -26,7 +26,7 @@ mod masks;
 mod sums;
 mod weighing;
 
-pub use charging::charge;
+pub use charging::{charge, charged};
 pub use completable_sets::CompletableSets;
 pub use extension::Extension;
 pub use forbidden::{are_spared, forbidden_sets};

@@ -7,8 +7,8 @@ use lock_model::MOST;
 /// How many numbers of ships a group may have, with none.
 pub(crate) const COUNTS: usize = MOST + 1;
 
-/// By number of ships the place among some successors of the one that pays most. It helps speed alone:
-/// whoever finds a place asks the successor there.
+/// By number of ships the place among some successors of the one of the greatest surplus. It helps speed
+/// alone: whoever finds a place asks the successor there.
 #[derive(Drop)]
 pub(crate) struct Bests {
     places: [Option<u16>; COUNTS],
@@ -33,11 +33,11 @@ impl Bests {
         Some(place as usize)
     }
 
-    // Whether a successor pays more than the one at a place, if there is one.
+    // Whether a successor has a greater surplus than the one at a place, if there is one.
     fn beats(&self, successors: &[Successor], place: Option<u16>, successor: &Successor) -> bool {
         match place {
             Some(place) if (place as usize) < successors.len() => {
-                successor.merit() > successors[place as usize].merit()
+                successor.surplus() > successors[place as usize].surplus()
             }
             _ => true,
         }

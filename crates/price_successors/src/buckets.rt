@@ -11,8 +11,8 @@ const COLUMNS: usize = 64;
 /// By which of its sums a successor most likely dominates others.
 #[derive(Clone, Copy)]
 pub(crate) enum Merit {
-    /// It pays much.
-    Pays,
+    /// It pays much beyond what it is charged.
+    Surplus,
     /// Its last ship arrives soon.
     Soon,
 }
@@ -34,7 +34,7 @@ impl Buckets {
     pub fn new(pass: u32) -> Buckets {
         Buckets {
             pass,
-            merit: Merit::Pays,
+            merit: Merit::Surplus,
             in_use: [false; COUNTS],
             places: [[None; COLUMNS]; COUNTS],
         }
@@ -77,7 +77,7 @@ impl Buckets {
     // Whether a successor is better than another by the merit.
     fn is_better(&self, successor: &Successor, other: &Successor) -> bool {
         match self.merit {
-            Merit::Pays => successor.merit() > other.merit(),
+            Merit::Surplus => successor.surplus() > other.surplus(),
             Merit::Soon => successor.last < other.last,
         }
     }

@@ -58,7 +58,7 @@ fn add_grown(
     requires base { IsBaseOf (line_asked extension.now.case.now) joins list.now.base }
     ensures { OnOk result (HaveMore (line_asked extension.now.case.now) joins list.now.base successors.old.items successors.new.items) }
 {
-    buckets.clear(Merit::Pays);
+    buckets.clear(Merit::Surplus);
     for grown in &list.groups {
         add_group(extension, successors, buckets, grown, joins)?;
     }

@@ -148,12 +148,12 @@ pub(crate) fn put_each(
     Ok(())
 }
 
-/// Puts the successors that pay most first: one dominates others only where it pays no less, so
-/// that in this order none is kept that a later one dominates.
+/// Puts the successors of the greatest surplus first: one dominates others only where it has no less,
+/// so that in this order none is kept that a later one dominates.
 pub(crate) fn order(successors: &mut Vec<Successor>) -> Result<(), PriceError>
     ensures { OnOk result (IsPermutation successors.old.items successors.new.items) }
 {
-    match successors.sort_by_key(|successor| u32::MAX - successor.merit()) {
+    match successors.sort_by_key(|successor| u32::MAX - successor.surplus()) {
         Ok(()) => Ok(()),
         Err(_) => Err(PriceError::NoMemory),
     }

@@ -23,7 +23,7 @@ pub struct Successor {
 
 impl Successor {
     // What it pays beyond what it is charged, which tells how good it is and helps speed alone.
-    pub(crate) fn merit(&self) -> u32 {
+    pub(crate) fn surplus(&self) -> u32 {
         self.pays.saturating_sub(self.charged)
     }
 

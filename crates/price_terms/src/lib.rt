@@ -1,7 +1,7 @@
 //! What lower bounds by prices are asked with, and what they answer.
 //!
-//! `Prices` are of the ships of an instance and of triples of them, a `ChamberCut` is what a bound needs of a cut, `Limits` and
-//! `PriceError` say how much a bound may take and why it wasn't worked out, and `LooseLines` are least
+//! `Prices` are of the ships of an instance and of triples of them, a `ChamberCut` is what a bound needs
+//! of a cut, `Limits` and `PriceError` say how much a bound may take and why it wasn't worked out, and `LooseLines` are least
 //! lines. `Shown` carries that a node reaches a cost by prices and cuts, `Swept` that no uncut plan costs
 //! less than a cost: their values exist only where that is so, which whoever makes one shows
 //! (`price_bound` works the one out, `sweep` the other).

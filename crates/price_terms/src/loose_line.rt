@@ -5,8 +5,8 @@ use crate::error::{PriceError, append};
 use lock_model::Group;
 use std::alloc::Global;
 
-/// A loose line of a chamber: its groups in order of service, and 100 times its flow time minus what
-/// it pays, in hundredths of a minute.
+/// A loose line of a chamber: its groups in order of service, and 100 times its flow time and what they
+/// are charged, less what they pay, in hundredths of a minute.
 #[derive(Drop)]
 pub struct LooseLine {
     pub groups: Vec<Group>,
@@ -38,7 +38,7 @@ impl LooseLine {
 }
 
 /// A loose line for each chamber, and what they are worth together with the prices of the missing
-/// ships, in hundredths of a minute.
+/// ships, less those of the triples, in hundredths of a minute.
 #[derive(Drop)]
 pub struct LooseLines {
     pub lines: Vec<LooseLine>,

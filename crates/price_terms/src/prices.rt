@@ -1,9 +1,9 @@
 //! Prices of the ships of an instance, and of triples of them.
-ghost use Rattle.std.specs.Prelude.{◌≡◌, ◌≤◌, ◌↔◌, [], length, map, min, All, IsSome, IfSome, IsTrue};
+ghost use Rattle.std.specs.Prelude.{◌≡◌, ◌<◌, ◌≤◌, ◌×◌, ◌↔◌, [], length, map, min, All, IsSome, IfSome, IsTrue};
 ghost use Rattle.price_rules.specs.Prices.{price_at};
 ghost use Rattle.price_rules.specs.Triples.{AreTriples};
 
-use crate::triples::are_triples;
+use crate::triples::{are_among, are_triples};
 use arrayvec::ArrayVec;
 use lock_model::SHIPS;
 use price_rules::{TRIPLES, Triple};
@@ -145,6 +145,13 @@ impl Prices {
         } else {
             0
         }
+    }
+
+    /// Whether these are prices of so many ships, and of triples of them.
+    pub fn are_of(&self, ships: usize) -> bool
+        ensures { IsTrue result ↔ ((length self.now.ships ≡ ships) × All (λ t. t.third < ships) self.now.triples) }
+    {
+        self.items.len() == ships && are_among(self.triples.as_slice(), ships)
     }
 
     /// The same prices.

@@ -1,5 +1,6 @@
 //! Whether triples may stand in a list of prices.
-ghost use Rattle.std.specs.Prelude.{◌≡◌, ◌↔◌, All, IsTrue};
+ghost use Rattle.std.specs.Prelude.{◌≡◌, ◌<◌, ◌↔◌, All, IsTrue};
+ghost use Rattle.price_rules.specs.declared.triple.Triple.{third};
 ghost use Rattle.price_rules.specs.Triples.{IsFairTriple, AreRisingTriples, AreTriples, triple_key};
 
 use price_rules::{TRIPLES, Triple};
@@ -50,4 +51,16 @@ pub(crate) fn are_triples(triples: &[Triple]) -> bool
     ensures { IsTrue result ↔ AreTriples triples.now }
 {
     triples.len() <= TRIPLES && are_fair(triples) && are_rising(triples)
+}
+
+/// Whether triples are of so many ships.
+pub(crate) fn are_among(triples: &[Triple], ships: usize) -> bool
+    ensures { IsTrue result ↔ All (λ t. t.third < ships) triples.now }
+{
+    for triple in triples {
+        if triple.third as usize >= ships {
+            return false;
+        }
+    }
+    true
 }
