@@ -9,7 +9,8 @@ use Rattle.lock_model.specs.declared.plan.Lockage.{Lockage}
 use Rattle.lock_model.specs.declared.verdict.Verdict.TheVariants as verdict
 use Rattle.lock_model.specs.declared.way.Way.TheVariants.{Up, Down}
 use Rattle.lock_rules.specs.Children.{single}
-use Rattle.lock_rules.proofs.RowInstances.{chambers-narrow, ships-narrow, narrow, chambers-side_by_side, ships-side_by_side, side_by_side, chambers-thr1, ships-thr1, thr1}
+use Rattle.lock_rules.proofs.RowInstances.{chambers-narrow, ships-narrow, narrow, chambers-side_by_side, ships-side_by_side, side_by_side, chambers-four, ships-four, four, chambers-thr1, ships-thr1, thr1}
+use Rattle.price_rules.specs.Prices.{PriceList}
 use Rattle.refute_rules.specs.Cuts.{Cut}
 use Rattle.refute_rules.specs.declared.refutation.Refutation.TheVariants as refutation
 use Rattle.refute_rules.specs.declared.refutation.Quick.TheVariants as quick
@@ -24,6 +25,7 @@ use Rattle.book_rules.specs.Events.{post, post_prices, close_price, close_swept,
 use Rattle.book_rules.specs.Shown.{Shown, Swept}
 use Rattle.book_rules.specs.Step.{step}
 use Rattle.book_rules.specs.Replay.{replay}
+use Rattle.closing_rules.specs.ListedPrices.{ship_prices}
 use Rattle.closing_rules.specs.declared.grounds.Ground.TheVariants as by
 
 -- no plan is broken
@@ -136,11 +138,11 @@ row-replace ok = refl
 
 -- closing the root by prices and the cut: what is shown is compared, and nothing is worked out
 abbrev narrow_shown : IsInstance chambers-narrow ships-narrow → ℕ → ℕ → Shown
-narrow_shown ok price cost = record { instance = narrow ok; node = root; prices = price ∷ price ∷ []; cuts = record { chamber = 0; ships = 0 ∷ 1 ∷ [] } ∷ []; cost = cost }
+narrow_shown ok price cost = record { instance = narrow ok; node = root; prices = ship_prices (price ∷ price ∷ []); cuts = record { chamber = 0; ships = 0 ∷ 1 ∷ [] } ∷ []; cost = cost }
 
 abbrev pricing : IsInstance chambers-narrow ships-narrow → List Event
 pricing ok =
-    post_prices (8500 ∷ []) ∷ post_prices (8500 ∷ 8500 ∷ []) ∷ close_price 0 0 (narrow_shown ok 8500 120) ∷ take 0 ∷ close_price 0 1 (narrow_shown ok 8500 120)
+    post_prices (ship_prices (8500 ∷ [])) ∷ post_prices (ship_prices (8500 ∷ 8500 ∷ [])) ∷ close_price 0 0 (narrow_shown ok 8500 120) ∷ take 0 ∷ close_price 0 1 (narrow_shown ok 8500 120)
     ∷ close_price 0 0 (narrow_shown ok 8500 120) ∷ post narrow_cut ∷ close_price 0 0 (narrow_shown ok 8400 120) ∷ close_price 0 0 (narrow_shown ok 8500 119)
     ∷ close 0 (by.Price 0) ∷ close_price 0 0 (narrow_shown ok 8500 121) ∷ close 0 (by.Price 0) ∷ take 0 ∷ []
 
@@ -151,15 +153,30 @@ row-pricing ok = refl
 
 -- what is shown of an instance that is wider
 row-other : (ok : IsInstance chambers-narrow ships-narrow) (wide : IsInstance chambers-side_by_side ships-side_by_side) →
-    replies (three_nodes ok) (post_prices (8500 ∷ 8500 ∷ []) ∷ take 0 ∷ close_price 0 0 (record { instance = side_by_side wide; node = root; prices = 8500 ∷ 8500 ∷ []; cuts = []; cost = 120 }) ∷ [])
+    replies (three_nodes ok) (post_prices (ship_prices (8500 ∷ 8500 ∷ [])) ∷ take 0 ∷ close_price 0 0 (record { instance = side_by_side wide; node = root; prices = ship_prices (8500 ∷ 8500 ∷ []); cuts = []; cost = 120 }) ∷ [])
     ≡ Priced 0 ∷ Node 0 root ∷ NotShown ∷ []
 row-other ok wide = refl
 
 -- the slot is closed by them, and the history names it and their number alone
 row-priced : (ok : IsInstance chambers-narrow ships-narrow) →
-    let b = after (three_nodes ok) (post_prices (8500 ∷ 8500 ∷ []) ∷ take 0 ∷ post narrow_cut ∷ close_price 0 0 (narrow_shown ok 8500 120) ∷ []) in
+    let b = after (three_nodes ok) (post_prices (ship_prices (8500 ∷ 8500 ∷ [])) ∷ take 0 ∷ post narrow_cut ∷ close_price 0 0 (narrow_shown ok 8500 120) ∷ []) in
     ((slot_at b 0).state ≡ slot.Closed (by.Price 0)) × (b.history ≡ entry.Prices ∷ entry.Take 0 ∷ entry.Post ∷ entry.Close 0 (by.Price 0) ∷ [])
 row-priced ok = (refl, refl)
+
+-- prices with a triple are refused where the instance lacks one of its ships, and what was shown without it is by other prices
+abbrev with_third : ℕ → PriceList
+with_third s = record { ships = 8500 ∷ 8500 ∷ 8500 ∷ 8500 ∷ []; triples = record { first = 0; second = 1; third = s; price = 500 } ∷ [] }
+
+abbrev four_shown : IsInstance chambers-four ships-four → PriceList → Shown
+four_shown ok prices = record { instance = four ok; node = root; prices = prices; cuts = []; cost = 900 }
+
+row-triples : (ok : IsInstance chambers-four ships-four) →
+    let b = opening_book (record { instance = four ok; nodes = 3; turns = 1 }) (record { lockages = alone 0 0 ∷ alone 1 800 ∷ [] }) in
+    replies b
+    (post_prices (with_third 4) ∷ post_prices (with_third 3) ∷ take 0 ∷ close_price 0 0 (four_shown ok (ship_prices (with_third 3).ships))
+    ∷ close_price 0 0 (four_shown ok (with_third 2)) ∷ close_price 0 0 (four_shown ok (with_third 3)) ∷ [])
+    ≡ OtherPrices ∷ Priced 0 ∷ Node 0 root ∷ NotShown ∷ NotShown ∷ Closed ∷ []
+row-triples ok = refl
 
 -- closing the root by a sweep that the cut allows: what was swept is compared, and nothing is worked out
 abbrev narrow_swept : IsInstance chambers-narrow ships-narrow → ℕ → Swept
@@ -167,7 +184,7 @@ narrow_swept ok cost = record { instance = narrow ok; cuts = record { chamber = 
 
 abbrev sweeping : IsInstance chambers-narrow ships-narrow → List Event
 sweeping ok =
-    close_swept 0 0 (narrow_swept ok 120) ∷ take 0 ∷ close_swept 0 0 (narrow_swept ok 120) ∷ post_prices (8500 ∷ 8500 ∷ []) ∷ close_swept 0 0 (narrow_swept ok 119)
+    close_swept 0 0 (narrow_swept ok 120) ∷ take 0 ∷ close_swept 0 0 (narrow_swept ok 120) ∷ post_prices (ship_prices (8500 ∷ 8500 ∷ [])) ∷ close_swept 0 0 (narrow_swept ok 119)
     ∷ post narrow_cut ∷ close_swept 0 0 (narrow_swept ok 119) ∷ close 0 (by.Swept 0) ∷ close_swept 0 0 (narrow_swept ok 121) ∷ close 0 (by.Swept 0) ∷ take 0 ∷ []
 
 row-sweeping : (ok : IsInstance chambers-narrow ships-narrow) →
@@ -181,13 +198,13 @@ row-below : (ok : IsInstance chambers-narrow ships-narrow) →
 row-below ok = refl
 
 row-wider : (ok : IsInstance chambers-narrow ships-narrow) (wide : IsInstance chambers-side_by_side ships-side_by_side) →
-    replies (three_nodes ok) (post_prices (8500 ∷ 8500 ∷ []) ∷ take 0 ∷ close_swept 0 0 (record { instance = side_by_side wide; cuts = []; cost = 120 }) ∷ [])
+    replies (three_nodes ok) (post_prices (ship_prices (8500 ∷ 8500 ∷ [])) ∷ take 0 ∷ close_swept 0 0 (record { instance = side_by_side wide; cuts = []; cost = 120 }) ∷ [])
     ≡ Priced 0 ∷ Node 0 root ∷ NotSwept ∷ []
 row-wider ok wide = refl
 
 -- the slot is closed by it, the history names the number of the prices alone, and it is played again
 row-swept : (ok : IsInstance chambers-narrow ships-narrow) →
-    let b = after (three_nodes ok) (post_prices (8500 ∷ 8500 ∷ []) ∷ take 0 ∷ post narrow_cut ∷ close_swept 0 0 (narrow_swept ok 121) ∷ []) in
+    let b = after (three_nodes ok) (post_prices (ship_prices (8500 ∷ 8500 ∷ [])) ∷ take 0 ∷ post narrow_cut ∷ close_swept 0 0 (narrow_swept ok 121) ∷ []) in
     ((slot_at b 0).state ≡ slot.Closed (by.Swept 0)) × (b.history ≡ entry.Prices ∷ entry.Take 0 ∷ entry.Post ∷ entry.Close 0 (by.Swept 0) ∷ [])
     × (replay unbroken b.case b.opening b.history b.cuts b.plans b.prices ≡ b) × (verdict_of b ≡ verdict.Optimal)
 row-swept ok = (refl, refl, refl, refl)
@@ -195,7 +212,7 @@ row-swept ok = (refl, refl, refl, refl)
 -- showing costs of the root by prices and the cut: each is compared, and is more than what was known
 abbrev showing : IsInstance chambers-narrow ships-narrow → List Event
 showing ok =
-    show_low 0 0 (narrow_shown ok 8500 100) ∷ post_prices (8500 ∷ 8500 ∷ []) ∷ show_low 0 0 (narrow_shown ok 8500 100) ∷ post narrow_cut
+    show_low 0 0 (narrow_shown ok 8500 100) ∷ post_prices (ship_prices (8500 ∷ 8500 ∷ [])) ∷ show_low 0 0 (narrow_shown ok 8500 100) ∷ post narrow_cut
     ∷ show_low 0 0 (narrow_shown ok 8400 100) ∷ show_low 0 0 (narrow_shown ok 8500 70) ∷ show_low 0 0 (narrow_shown ok 8500 100) ∷ show_low 0 0 (narrow_shown ok 8500 100)
     ∷ take 0 ∷ show_low 0 0 (narrow_shown ok 8500 101) ∷ split 0 ∷ show_low 0 0 (narrow_shown ok 8500 102) ∷ show_low 1 0 (narrow_shown ok 8500 102)
     ∷ show_low 2 0 (narrow_shown ok 8500 102) ∷ []
@@ -208,7 +225,7 @@ row-showing ok = refl
 -- nothing is shown of a slot that is closed, and nothing of an instance that is wider
 row-shut : (ok : IsInstance chambers-narrow ships-narrow) (wide : IsInstance chambers-side_by_side ships-side_by_side) →
     replies (three_nodes ok)
-    (post_prices (8500 ∷ 8500 ∷ []) ∷ post narrow_cut ∷ show_low 0 0 (record { instance = side_by_side wide; node = root; prices = 8500 ∷ 8500 ∷ []; cuts = []; cost = 100 })
+    (post_prices (ship_prices (8500 ∷ 8500 ∷ [])) ∷ post narrow_cut ∷ show_low 0 0 (record { instance = side_by_side wide; node = root; prices = ship_prices (8500 ∷ 8500 ∷ []); cuts = []; cost = 100 })
     ∷ take 0 ∷ close_price 0 0 (narrow_shown ok 8500 120) ∷ show_low 0 0 (narrow_shown ok 8500 121) ∷ [])
     ≡ Priced 0 ∷ Posted 0 ∷ NotShown ∷ Node 0 root ∷ Closed ∷ NotHeld 0 ∷ []
 row-shut ok wide = refl
@@ -222,7 +239,7 @@ row-low ok = (refl, refl, refl)
 
 -- and is played again
 row-low_again : (ok : IsInstance chambers-narrow ships-narrow) →
-    let b = after (three_nodes ok) (post_prices (8500 ∷ 8500 ∷ []) ∷ post narrow_cut ∷ show_low 0 0 (narrow_shown ok 8500 100) ∷ take 0 ∷ []) in
+    let b = after (three_nodes ok) (post_prices (ship_prices (8500 ∷ 8500 ∷ [])) ∷ post narrow_cut ∷ show_low 0 0 (narrow_shown ok 8500 100) ∷ take 0 ∷ []) in
     replay unbroken b.case b.opening b.history b.cuts b.plans b.prices ≡ b
 row-low_again ok = refl
 
@@ -233,8 +250,8 @@ later = record { lockages = alone 0 0 ∷ alone 1 60 ∷ [] }
 abbrev spent_by : IsInstance chambers-narrow ships-narrow → Plan → ℕ → Book
 spent_by ok plan cost =
     after (opening_book (record { instance = narrow ok; nodes = 2; turns = 20000 }) plan)
-    (take 0 ∷ split 0 ∷ take 0 ∷ split 1 ∷ post_prices (8500 ∷ 8500 ∷ []) ∷ post narrow_cut
-    ∷ show_low 2 0 (record { instance = narrow ok; node = both; prices = 8500 ∷ 8500 ∷ []; cuts = record { chamber = 0; ships = 0 ∷ 1 ∷ [] } ∷ []; cost = cost }) ∷ [])
+    (take 0 ∷ split 0 ∷ take 0 ∷ split 1 ∷ post_prices (ship_prices (8500 ∷ 8500 ∷ [])) ∷ post narrow_cut
+    ∷ show_low 2 0 (record { instance = narrow ok; node = both; prices = ship_prices (8500 ∷ 8500 ∷ []); cuts = record { chamber = 0; ships = 0 ∷ 1 ∷ [] } ∷ []; cost = cost }) ∷ [])
 
 row-open_low : (ok : IsInstance chambers-narrow ships-narrow) →
     (verdict_of (spent_by ok singles 80) ≡ verdict.OpenNodes 2 80) × (verdict_of (spent_by ok singles 100) ≡ verdict.OpenNodes 2 100)
@@ -247,9 +264,9 @@ row-least ok = (refl, refl)
 
 -- and so it is of a slot that is parked
 abbrev both_shown : IsInstance chambers-side_by_side ships-side_by_side → ℕ → Shown
-both_shown ok cost = record { instance = side_by_side ok; node = both; prices = 8500 ∷ 8500 ∷ []; cuts = []; cost = cost }
+both_shown ok cost = record { instance = side_by_side ok; node = both; prices = ship_prices (8500 ∷ 8500 ∷ []); cuts = []; cost = cost }
 
 row-parked_low : (ok : IsInstance chambers-side_by_side ships-side_by_side) →
-    let b = after (one_turn ok) (parking ++ post_prices (8500 ∷ 8500 ∷ []) ∷ show_low 2 0 (both_shown ok 100) ∷ []) in
+    let b = after (one_turn ok) (parking ++ post_prices (ship_prices (8500 ∷ 8500 ∷ [])) ∷ show_low 2 0 (both_shown ok 100) ∷ []) in
     (verdict_of b ≡ verdict.OpenTurns 0 (0 ∷ 1 ∷ []) 1 100) × (verdict_of (after b (show_low 2 0 (both_shown ok 500) ∷ [])) ≡ verdict.OpenTurns 0 (0 ∷ 1 ∷ []) 1 119)
 row-parked_low ok = (refl, refl)

@@ -1,5 +1,5 @@
 -- Closing a slot, and showing a cost of it: what is refused, and what is known where nothing is refused.
-use Rattle.std.proofs.Common.{◌≡◌, ℕ, List, ◌<◌, ◌≤◌, refl, arith, Bool, true, false, not, cond, Some, None, slice_get, nat_eq, nat_le, nat_lt, leb-false}
+use Rattle.std.proofs.Common.{◌≡◌, ℕ, ◌<◌, ◌≤◌, refl, arith, Bool, true, false, not, cond, Some, None, slice_get, nat_eq, nat_le, nat_lt, leb-false}
 use Rattle.std.proofs.lemmas.Bool.{false≢true, not-false}
 use Rattle.std.proofs.lemmas.Bool.Decides.{Decides-eqb}
 use Rattle.std.specs.Bool.{⊤}
@@ -8,6 +8,7 @@ use Rattle.list_laws.proofs.Variants.{some-not_none}
 use Rattle.lock_model.specs.declared.instance.Instance.{Instance}
 use Rattle.lock_rules.specs.Arrival.{missing_ships}
 use Rattle.lock_rules.specs.Throughput.{throughput_of}
+use Rattle.price_rules.specs.Prices.{PriceList}
 use Rattle.refute_rules.specs.Cuts.{Cut}
 use Rattle.closing_rules.specs.declared.grounds.Ground.{Ground}
 use Rattle.closing_rules.specs.declared.grounds.Ground.TheVariants as by
@@ -56,23 +57,23 @@ module _ (b : Book) (id : ℕ) where
     may-refuse (by.Price number) = refl
     may-refuse (by.Swept number) = refl
 
-    pub may-refuse_price : (number : ℕ) (shown : Shown) (o : Option (List ℕ)) → MayRefuse {Break = Break} (Step.price_refusal b id number shown o)
+    pub may-refuse_price : (number : ℕ) (shown : Shown) (o : Option PriceList) → MayRefuse {Break = Break} (Step.price_refusal b id number shown o)
     may-refuse_price number shown None = refl
     may-refuse_price number shown (Some prices) = refuse_or (not (Step.is_shown b id prices shown)) NotShown (Step.cheaper_than (best_cost b) shown.cost) refl (cheaper-refuses shown.cost)
 
-    pub may-refuse_low : (number : ℕ) (shown : Shown) (o : Option (List ℕ)) → MayRefuse {Break = Break} (Step.low_refusal b id number shown o)
+    pub may-refuse_low : (number : ℕ) (shown : Shown) (o : Option PriceList) → MayRefuse {Break = Break} (Step.low_refusal b id number shown o)
     may-refuse_low number shown None = refl
     may-refuse_low number shown (Some prices) =
         let low = slot_low (slot_at b id) in
         refuse_or (not (Step.is_shown b id prices shown)) NotShown (cond (nat_le shown.cost low) (Some (Lower shown.cost low)) None) refl
         (refuse_or (nat_le shown.cost low) (Lower shown.cost low) None refl tt)
 
-    swept-refuses : (number : ℕ) (swept : Swept) (o : Option (List ℕ)) → MayRefuse {Break = Break} (Step.sweep_by_prices b number swept o)
+    swept-refuses : (number : ℕ) (swept : Swept) (o : Option PriceList) → MayRefuse {Break = Break} (Step.sweep_by_prices b number swept o)
     swept-refuses number swept None = refl
     swept-refuses number swept (Some prices) =
         refuse_or (not (Step.is_swept b swept)) NotSwept (Step.cheaper_than (best_cost b) swept.cost) refl (cheaper-refuses swept.cost)
 
-    pub may-refuse_sweep : (number : ℕ) (swept : Swept) (o : Option (List ℕ)) → MayRefuse {Break = Break} (Step.sweep_refusal b id number swept o)
+    pub may-refuse_sweep : (number : ℕ) (swept : Swept) (o : Option PriceList) → MayRefuse {Break = Break} (Step.sweep_refusal b id number swept o)
     may-refuse_sweep number swept o =
         refuse_or (not (nat_eq (slot_at b id).node.depth 0)) NotRoot (Step.sweep_by_prices b number swept o) refl (swept-refuses number swept o)
 
@@ -98,7 +99,7 @@ module _ (b : Book) (id : ℕ) where
     unrefused-may (by.Swept number) e = absurd (some-not_none NotSwept e)
 
     -- where what was shown isn't refused, slot id may be closed by the prices
-    pub shown-may : (number : ℕ) (shown : Shown) → IsShown shown → (o : Option (List ℕ)) → slice_get b.prices number ≡ o → Step.price_refusal {Break = Break} b id number shown o ≡ None → MayCloseBy (by.Price number)
+    pub shown-may : (number : ℕ) (shown : Shown) → IsShown shown → (o : Option PriceList) → slice_get b.prices number ≡ o → Step.price_refusal {Break = Break} b id number shown o ≡ None → MayCloseBy (by.Price number)
     shown-may number shown reached None there e = absurd (some-not_none (NoPrices number) e)
     shown-may number shown reached (Some prices) there e =
         let own = Step.is_shown b id prices shown in
@@ -106,7 +107,7 @@ module _ (b : Book) (id : ℕ) where
         shown-holds b id number prices there shown reached (not-false own both.0) (best_cost b) (none-cheaper shown.cost both.1)
 
     -- where what was shown isn't refused, slot id reaches its cost, which is more than was known of it
-    pub low-may : (number : ℕ) (shown : Shown) → IsShown shown → (o : Option (List ℕ)) → slice_get b.prices number ≡ o → Step.low_refusal {Break = Break} b id number shown o ≡ None
+    pub low-may : (number : ℕ) (shown : Shown) → IsShown shown → (o : Option PriceList) → slice_get b.prices number ≡ o → Step.low_refusal {Break = Break} b id number shown o ≡ None
         → (slot_low (slot_at b id) < shown.cost)
         × IsPricedBy I (cuts_in I b.cuts) b.prices number (slot_at b id).node.depth (slot_at b id).node.lines shown.cost
     low-may number shown reached None there e = absurd (some-not_none (NoPrices number) e)
@@ -117,7 +118,7 @@ module _ (b : Book) (id : ℕ) where
         let more = none-of (nat_le shown.cost low) (Lower shown.cost low) None both.1 in
         (leb-false shown.cost low more.0, shown-holds b id number prices there shown reached (not-false own both.0) shown.cost (omega arith))
 
-    by_prices-may : (number : ℕ) (swept : Swept) → IsSweptCost swept → (slot_at b id).node.depth ≡ 0 → (o : Option (List ℕ)) → slice_get b.prices number ≡ o
+    by_prices-may : (number : ℕ) (swept : Swept) → IsSweptCost swept → (slot_at b id).node.depth ≡ 0 → (o : Option PriceList) → slice_get b.prices number ≡ o
         → Step.sweep_by_prices {Break = Break} b number swept o ≡ None → MayCloseBy (by.Swept number)
     by_prices-may number swept holds root None there e = absurd (some-not_none (NoPrices number) e)
     by_prices-may number swept holds root (Some prices) there e =

@@ -3,7 +3,7 @@ use Rattle.std.proofs.Common.{◌≡◌, ◌≢◌, ℕ, zero, suc, ◌+◌, ◌
 use Rattle.std.proofs.lemmas.Bool.{and_parts, not-false}
 use Rattle.std.proofs.lemmas.Option.{same_Some, none-some}
 use Rattle.std.specs.declared.option.Option.{Option}
-use Rattle.std.proofs.lemmas.Bool.Decides.{Decides-eqb, leb_tells, eqb_tells}
+use Rattle.std.proofs.lemmas.Bool.Decides.{leb_tells, eqb_tells}
 use Rattle.std.proofs.lemmas.List.{length-map, length-set, get_or-set_same, get_or-set_other, get_or-append-add}
 use Rattle.std.proofs.lemmas.List.Elements.{All-push, All-append, All-cons, All-nil, All-head, All-tail, All-map, All-weaker}
 use Rattle.std.proofs.Math.ListN.{get_or-append}
@@ -26,7 +26,7 @@ use Rattle.book_rules.specs.declared.book.SlotState.TheVariants as slot
 use Rattle.book_rules.specs.declared.book.Entry.{Entry}
 use Rattle.book_rules.specs.declared.book.ShownLow.{ShownLow}
 use Rattle.book_rules.specs.declared.book.Entry.TheVariants as entry
-use Rattle.book_rules.specs.Tests.{has_clash, is_own_cut}
+use Rattle.book_rules.specs.Tests.{has_clash, is_own_cut, has_shape}
 use Rattle.book_rules.specs.Book.{Case, Slot, Book, no_slot, slot_at, best_cost, bound_at, new_slot, opening_book, is_fresh, is_back, is_held, is_held_by, is_parked, is_live, first_slot, group_at}
 use Rattle.book_rules.specs.Events.{Event, Reply, IsOwed, take, split, close, post, post_prices, close_price, close_swept, show_low, park, replace, release}
 use Rattle.book_rules.specs.Events.{Replaced, Ended, NodesSpent, NotHeld, Whole, OtherDeck, OtherPrices, NotCheaper, Clashes}
@@ -38,7 +38,7 @@ use Rattle.closing_rules.specs.Laws.{TreeLaws}
 use Rattle.price_rules.specs.Prices.{PriceList, CutHolds}
 use Rattle.closing_rules.specs.ListedPrices.{ArePrices, AreShapedPrices, cut_in}
 use Rattle.book_rules.specs.States.{IsHitBy, cuts_in}
-use Rattle.book_rules.proofs.TestLemmas.{is_own_cut-decides}
+use Rattle.book_rules.proofs.TestLemmas.{is_own_cut-decides, has_shape-decides}
 use Rattle.book_rules.proofs.ClosingLemmas.{MayCloseBy, unrefused-may, shown-may, swept-may}
 use Rattle.book_rules.proofs.TurnLemmas.{low-at}
 
@@ -334,11 +334,11 @@ module _ {Break : Type 0} (broken : Instance → Plan → Option Break) (sound :
     covers = record { legal = old.covers.legal; covered = old.covers.covered };
   }
 
-  priced-keeps : (prices : PriceList) → ArePrices prices → nat_eq (length prices) (length I.ships) ≡ true → KeepsBook (Step.priced {Break = Break} b prices).0
+  priced-keeps : (prices : PriceList) → ArePrices prices → has_shape I prices ≡ true → KeepsBook (Step.priced {Break = Break} b prices).0
   priced-keeps prices good own = record {
     slots = old.slots;
     cuts = old.cuts;
-    prices = All-push (λ u. ArePrices u × AreShapedPrices I u) b.prices prices old.prices (good, record { count = (Decides-eqb (length prices) (length I.ships)).0 own });
+    prices = All-push (λ u. ArePrices u × AreShapedPrices I u) b.prices prices old.prices (good, (has_shape-decides I prices).0 own);
     covers = record { legal = old.covers.legal; covered = old.covers.covered };
   }
 
@@ -383,7 +383,7 @@ module _ {Break : Type 0} (broken : Instance → Plan → Option Break) (sound :
   event-keeps (post cut) owed =
       keep_or (not (is_own_cut I cut)) OtherDeck (Step.posted b cut) (λ e. posted-keeps cut owed (not-false (is_own_cut I cut) e))
   event-keeps (post_prices prices) owed =
-      let shaped = nat_eq (length prices) (length I.ships) in
+      let shaped = has_shape I prices in
       keep_or (not shaped) OtherPrices (Step.priced b prices) (λ e. priced-keeps prices owed (not-false shaped e))
   event-keeps (close_price id number shown) owed =
       let refusal = Step.price_refusal b id number shown (slice_get b.prices number) in

@@ -43,7 +43,7 @@ more-reached I cuts more prices node (Some low) h = record {
 }
 
 -- with more prices
-priced-reached : (I : Instance) (cuts : List Cut) (prices more : List (List ℕ)) (node : TreeNode) (o : Option ShownLow) → IsReachedLow I cuts prices node o → IsReachedLow I cuts (prices ++ more) node o
+priced-reached : (I : Instance) (cuts : List Cut) (prices more : List PriceList) (node : TreeNode) (o : Option ShownLow) → IsReachedLow I cuts prices node o → IsReachedLow I cuts (prices ++ more) node o
 priced-reached I cuts prices more node None h = h
 priced-reached I cuts prices more node (Some low) h = record { own = h.own; there = get-more prices more low.prices h.own h.there; reached = h.reached }
 

@@ -3,7 +3,7 @@ use Rattle.std.proofs.Common.{◌≡◌, ◌≢◌, ℕ, zero, suc, ◌<◌, ◌
 use Rattle.std.proofs.lemmas.Bool.{and_parts, not-false}
 use Rattle.std.proofs.lemmas.Option.{same_Some, none-some}
 use Rattle.std.specs.declared.option.Option.{Option}
-use Rattle.std.proofs.lemmas.Bool.Decides.{Decides-eqb, eqb_tells}
+use Rattle.std.proofs.lemmas.Bool.Decides.{eqb_tells}
 use Rattle.lock_model.specs.declared.limits.TheConstants.{WORKERS}
 use Rattle.lock_model.specs.Deck.{Deck}
 use Rattle.lock_model.specs.Fitting.{deck_of}
@@ -22,7 +22,7 @@ use Rattle.book_rules.specs.declared.book.ShownLow.{ShownLow}
 use Rattle.book_rules.specs.declared.book.Entry.TheVariants as entry
 use Rattle.book_rules.specs.declared.book.SlotState.{SlotState}
 use Rattle.book_rules.specs.declared.book.SlotState.TheVariants as slot
-use Rattle.book_rules.specs.Tests.{same_deck, has_clash, is_own_cut}
+use Rattle.book_rules.specs.Tests.{same_deck, has_clash, is_own_cut, has_shape}
 use Rattle.book_rules.specs.Book.{Slot, Book, no_slot, slot_at, slot_low, best_cost, first_slot, has_slot, is_back, is_held, is_held_by, is_parked, is_live, group_at, ships_at, no_group}
 use Rattle.book_rules.specs.Events.{Event, Reply, IsOwed, is_acceptance, take, split, close, post, post_prices, close_price, close_swept, show_low, park, replace, release}
 use Rattle.book_rules.specs.Events.{Replaced, Ended, NodesSpent, Idle, Done, NotHeld, Whole, OtherDeck, OtherPrices, NotCheaper, Clashes}
@@ -33,7 +33,7 @@ use Rattle.book_rules.specs.States.{Tells}
 use Rattle.book_rules.specs.Lows.{IsReachedLow}
 use Rattle.book_rules.proofs.ClosingLemmas.{MayRefuse, may-refuse, may-refuse_price, may-refuse_sweep, may-refuse_low, unrefused-may, shown-may, swept-may, low-may}
 use Rattle.book_rules.proofs.CoverLemmas.{held-known}
-use Rattle.book_rules.proofs.TestLemmas.{same_deck-decides, HasNoClash-test, is_own_cut-decides}
+use Rattle.book_rules.proofs.TestLemmas.{same_deck-decides, HasNoClash-test, is_own_cut-decides, has_shape-decides}
 use Rattle.book_rules.specs.Cover.{IsOwnCut}
 use Rattle.book_rules.proofs.SlotLemmas.{IsAt, back-is, held-is, held_by-is, held_by-itself, first_slot-at, first_slot-none, next_fresh-at}
 use Rattle.closing_rules.specs.declared.grounds.Ground.{Ground}
@@ -228,9 +228,9 @@ module _ {Break : Type 0} (broken : Instance → Plan → Option Break) (b : Boo
       refuse_or (post cut) (not (is_own_cut I cut)) OtherDeck (Step.posted b cut) refl (λ f.
       Posts cut refl owed ((is_own_cut-decides I cut).0 (not-false (is_own_cut I cut) f)) refl)
   each-move (post_prices prices) owed =
-      let shaped = nat_eq (length prices) (length I.ships) in
+      let shaped = has_shape I prices in
       refuse_or (post_prices prices) (not shaped) OtherPrices (Step.priced b prices) refl (λ f.
-      Prices prices refl owed (record { count = (Decides-eqb (length prices) (length I.ships)).0 (not-false shaped f) }) refl)
+      Prices prices refl owed ((has_shape-decides I prices).0 (not-false shaped f)) refl)
   each-move (close_price id number shown) owed =
       let refusal = Step.price_refusal b id number shown (slice_get b.prices number) in
       refuse_or (close_price id number shown) (not (Step.may_close b id)) (NotHeld id) (Step.close_unless b id (by.Price number) refusal) refl (λ f.

@@ -57,7 +57,7 @@ module _ {Break : Type 0} (broken : Instance → Plan → Option Break) where
   abbrev after : Book → Event → Book
   after b e = (Step.step broken b e).0
 
-  replay-append : (es : List Entry) (b : Book) (x : Entry) (cs ds : List Cut) (ps qs : List Plan) (us vs : List (List ℕ)) → count_by is_post es ≡ length cs → count_by is_replace es ≡ length ps → count_by is_pricing es ≡ length us
+  replay-append : (es : List Entry) (b : Book) (x : Entry) (cs ds : List Cut) (ps qs : List Plan) (us vs : List PriceList) → count_by is_post es ≡ length cs → count_by is_replace es ≡ length ps → count_by is_pricing es ≡ length us
       → replay_from broken b (es ++ x ∷ []) (cs ++ ds) (ps ++ qs) (us ++ vs) ≡ replay_from broken (replay_from broken b es cs ps us) (x ∷ []) ds qs vs
   replay-append [] b x [] ds [] qs [] vs e f g = refl
   replay-append [] b x [] ds [] qs (u ∷ us) vs e f g = absurd (omega (arith, g))
@@ -148,7 +148,7 @@ module _ {Break : Type 0} (broken : Instance → Plan → Option Break) where
       let best = best_cost b in
       ap (λ t. cond (not t) (Some NotSwept) (Step.cheaper_than best best)) (own-swept b) ∙ best-unrefused best
 
-  prices-again : (b : Book) (id number : ℕ) (shown : Shown) (o : Option (List ℕ)) → slice_get b.prices number ≡ o
+  prices-again : (b : Book) (id number : ℕ) (shown : Shown) (o : Option PriceList) → slice_get b.prices number ≡ o
       → is_acceptance (Step.close_unless {Break = Break} b id (by.Price number) (Step.price_refusal b id number shown o)).1 ≡ true
       → (Step.close_unless {Break = Break} b id (by.Price number) (Step.price_refusal b id number (own_shown b id number (best_cost b)) o)).0 ≡ (Step.close_unless {Break = Break} b id (by.Price number) (Step.price_refusal b id number shown o)).0
   prices-again b id number shown None there good = refl
@@ -157,10 +157,10 @@ module _ {Break : Type 0} (broken : Instance → Plan → Option Break) where
       (own-unrefused b id number prices there) (may-refuse_price b id Break number shown (Some prices)) good
 
   -- where it is known whether the slot is the root
-  abbrev root_way : Book → ℕ → Swept → Option (List ℕ) → Bool → Option (Reply Break)
+  abbrev root_way : Book → ℕ → Swept → Option PriceList → Bool → Option (Reply Break)
   root_way b number swept o t = cond (not t) (Some NotRoot) (Step.sweep_by_prices b number swept o)
 
-  sweep-again : (b : Book) (id number : ℕ) (swept : Swept) (o : Option (List ℕ)) (t : Bool) → MayRefuse (root_way b number swept o t)
+  sweep-again : (b : Book) (id number : ℕ) (swept : Swept) (o : Option PriceList) (t : Bool) → MayRefuse (root_way b number swept o t)
       → is_acceptance (Step.close_unless {Break = Break} b id (by.Swept number) (root_way b number swept o t)).1 ≡ true
       → (Step.close_unless {Break = Break} b id (by.Swept number) (root_way b number (own_swept b) o t)).0 ≡ (Step.close_unless {Break = Break} b id (by.Swept number) (root_way b number swept o t)).0
   sweep-again b id number swept o false refuses good = refl
@@ -194,7 +194,7 @@ module _ {Break : Type 0} (broken : Instance → Plan → Option Break) where
   own-again b id low true good = refl
   own-again b id low false good = absurd (false≢true good)
 
-  low-again : (b : Book) (id number : ℕ) (shown : Shown) (o : Option (List ℕ)) → slice_get b.prices number ≡ o
+  low-again : (b : Book) (id number : ℕ) (shown : Shown) (o : Option PriceList) → slice_get b.prices number ≡ o
       → is_acceptance (Step.show_unless {Break = Break} b id (record { prices = number; cost = shown.cost }) (Step.low_refusal b id number shown o)).1 ≡ true
       → (Step.show_unless {Break = Break} b id (record { prices = number; cost = shown.cost }) (Step.low_refusal b id number (own_shown b id number shown.cost) o)).0
       ≡ (Step.show_unless {Break = Break} b id (record { prices = number; cost = shown.cost }) (Step.low_refusal b id number shown o)).0

@@ -49,7 +49,7 @@ own-first (c ∷ cs) =
 -- ---- what is shown
 
 -- the same of an equal instance, node and prices
-same-reached : (cuts : List ChamberCut) (cost : ℕ) (I J : Instance) (m n : Node) (u v : List ℕ) → I ≡ J → m ≡ n → u ≡ v
+same-reached : (cuts : List ChamberCut) (cost : ℕ) (I J : Instance) (m n : Node) (u v : PriceList) → I ≡ J → m ≡ n → u ≡ v
     → Reaches I (shown_cuts I cuts) m.depth m.lines u cost → Reaches J (shown_cuts J cuts) n.depth n.lines v cost
 same-reached cuts cost I J m n u v p q r h =
     subst (λ v. Reaches J (shown_cuts J cuts) n.depth n.lines v cost) r

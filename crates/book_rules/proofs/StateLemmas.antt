@@ -74,7 +74,7 @@ more-tells case cuts more prices cost node bound (slot.Parked c p) h = h
 more-tells case cuts more prices cost node bound (slot.Split first) h = h
 
 -- with more prices
-priced-tells : (case : Case) (cuts : List Cut) (prices more : List (List ℕ)) (cost : ℕ) (node : TreeNode) (bound : ℕ) (state : SlotState) → Tells case cuts prices cost node bound state → Tells case cuts (prices ++ more) cost node bound state
+priced-tells : (case : Case) (cuts : List Cut) (prices more : List PriceList) (cost : ℕ) (node : TreeNode) (bound : ℕ) (state : SlotState) → Tells case cuts prices cost node bound state → Tells case cuts (prices ++ more) cost node bound state
 priced-tells case cuts prices more cost node bound (slot.Closed (by.Price number)) h = record { own = h.own; there = get-more prices more number h.own h.there; reached = h.reached }
 priced-tells case cuts prices more cost node bound (slot.Closed (by.Swept number)) h =
     record { root = h.root; own = h.own; there = get-more prices more number h.own h.there; swept = h.swept }

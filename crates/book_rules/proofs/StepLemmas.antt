@@ -5,6 +5,7 @@ use Rattle.lock_model.specs.Deck.{Deck}
 use Rattle.lock_model.specs.declared.instance.Instance.{Instance}
 use Rattle.lock_model.specs.declared.group.Group.{Group}
 use Rattle.lock_model.specs.declared.plan.Plan.{Plan}
+use Rattle.price_rules.specs.Prices.{PriceList}
 use Rattle.refute_rules.specs.Cuts.{Cut}
 use Rattle.book_rules.specs.declared.book.Entry.{Entry}
 use Rattle.book_rules.specs.declared.book.ShownLow.{ShownLow}
@@ -14,7 +15,7 @@ use Rattle.book_rules.specs.Book.{Book, slot_at, best_cost, first_slot, has_slot
 use Rattle.book_rules.specs.Events.{take, split, close, post, post_prices, close_price, close_swept, show_low, park, replace, release}
 use Rattle.book_rules.specs.Events.{Node, Made, Closed, LowShown, Parked, Replaced, Released, Ended, NodesSpent, Idle, Done, NotHeld, Whole, OtherDeck, OtherPrices, NotCheaper, Clashes}
 use Rattle.lock_rules.specs.Plan.{cost_of}
-use Rattle.book_rules.specs.Tests.{has_clash, is_own_cut}
+use Rattle.book_rules.specs.Tests.{has_clash, is_own_cut, has_shape}
 use Rattle.book_rules.specs.NextSlot
 use Rattle.book_rules.specs.Step
 use Rattle.book_rules.proofs.ClosingLemmas.{MayRefuse, may-refuse, may-refuse_price, may-refuse_sweep, may-refuse_low}
@@ -43,7 +44,7 @@ abbrev pub plans_of : Event → List Plan
 plans_of (replace plan) = plan ∷ []
 plans_of _ = []
 
-abbrev pub prices_of : Event → List (List ℕ)
+abbrev pub prices_of : Event → List PriceList
 prices_of (post_prices prices) = prices ∷ []
 prices_of _ = []
 
@@ -156,7 +157,7 @@ module _ {Break : Type 0} (broken : Instance → Plan → Option Break) (b : Boo
       refuse_or (post cut) (not (is_own_cut b.case.instance cut)) OtherDeck (Step.posted b cut) refl
       (Accepted (record { accepted = refl; history = refl; cuts = refl; plans = append-nil b.plans; prices = append-nil b.prices; case = refl; opening = refl }))
   each-step (post_prices prices) =
-      refuse_or (post_prices prices) (not (nat_eq (length prices) (length b.case.instance.ships))) OtherPrices (Step.priced b prices) refl
+      refuse_or (post_prices prices) (not (has_shape b.case.instance prices)) OtherPrices (Step.priced b prices) refl
       (Accepted (record { accepted = refl; history = refl; cuts = append-nil b.cuts; plans = append-nil b.plans; prices = refl; case = refl; opening = refl }))
   each-step (close_price id number shown) =
       let refusal = Step.price_refusal b id number shown (slice_get b.prices number) in

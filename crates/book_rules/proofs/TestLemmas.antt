@@ -18,9 +18,12 @@ use Rattle.lock_rules.specs.Node.{line_at}
 use Rattle.lock_rules.specs.Trace.{has_number}
 use Rattle.lock_rules.specs.Cut.{Hits, HitsNode}
 use Rattle.lock_rules.proofs.LineLemmas.{length-numbers, numbers-at}
+use Rattle.price_rules.specs.Prices.{PriceList}
+use Rattle.price_rules.specs.declared.triple.Triple.{Triple}
+use Rattle.closing_rules.specs.ListedPrices.{AreShapedPrices}
 use Rattle.refute_rules.specs.Cuts.{Cut}
 use Rattle.book_rules.specs.Cover.{IsOwnCut}
-use Rattle.book_rules.specs.Tests.{same_size, same_sizes, same_deck, is_clash, has_clash, is_no_roomier, is_hit, is_node_hit, is_own_cut}
+use Rattle.book_rules.specs.Tests.{same_size, same_sizes, same_deck, is_clash, has_clash, is_no_roomier, is_hit, is_node_hit, is_own_cut, has_shape}
 
 Decides-leb : (a b : ℕ) → Decides (nat_le a b) (a ≤ b)
 Decides-leb a b = elim (leb_tells a b) [ inl y ↦ (λ e. y.1, λ h. y.0) | inr n ↦ (λ e. absurd (false≢true (sym n.0 ∙ e)), λ h. absurd (omega (arith, h, n.1))) ]
@@ -115,6 +118,12 @@ is_own_cut-decides I cut =
     (Decides-and (nat_lt cut.chamber (length I.chambers)) (list_all (λ s. nat_lt s (length I.ships)) cut.ships) (Decides-ltb cut.chamber (length I.chambers))
     (Decides-by_and (λ s. nat_lt s (length I.ships)) (λ s. s < length I.ships) (list_all (λ s. nat_lt s (length I.ships))) (λ s. Decides-ltb s (length I.ships)) refl (λ _ _. refl) cut.ships))
     (same_deck-decides cut.deck (deck_of I cut.chamber cut.ships)))
+
+pub has_shape-decides : (I : Instance) (prices : PriceList) → Decides (has_shape I prices) (AreShapedPrices I prices)
+has_shape-decides I prices =
+    Decides-like (has_shape I prices) (λ h. record { count = h.0; known = h.1 }) (λ s. (s.count, s.known))
+    (Decides-and (nat_eq (length prices.ships) (length I.ships)) (list_all (λ (t : Triple). nat_lt t.third (length I.ships)) prices.triples) (Decides-eqb (length prices.ships) (length I.ships))
+    (Decides-by_and (λ (t : Triple). nat_lt t.third (length I.ships)) (λ (t : Triple). t.third < length I.ships) (list_all (λ (t : Triple). nat_lt t.third (length I.ships))) (λ (t : Triple). Decides-ltb t.third (length I.ships)) refl (λ _ _. refl) prices.triples))
 
 -- the test of a line, for one chamber
 line_test : Instance → Cut → List (List Group) → ℕ → Bool

@@ -1,5 +1,5 @@
 -- Events of a book, and its replies.
-use Rattle.std.specs.Prelude.{ℕ, ◌≤◌, List, Bool, true, false, ⊤}
+use Rattle.std.specs.Prelude.{ℕ, ◌≤◌, Bool, true, false, ⊤}
 use Rattle.lock_model.specs.declared.limits.TheConstants.{WORKERS}
 use Rattle.lock_model.specs.Deck.{Deck}
 use Rattle.lock_model.specs.declared.plan.Plan.{Plan}

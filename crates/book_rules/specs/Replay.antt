@@ -4,6 +4,7 @@ use Rattle.std.specs.declared.option.Option.{Option}
 use Rattle.lock_model.specs.Fitting.{deck_of}
 use Rattle.lock_model.specs.declared.instance.Instance.{Instance}
 use Rattle.lock_model.specs.declared.plan.Plan.{Plan}
+use Rattle.price_rules.specs.Prices.{PriceList}
 use Rattle.refute_rules.specs.Cuts.{Cut}
 use Rattle.closing_rules.specs.ListedPrices.{no_prices}
 use Rattle.closing_rules.specs.declared.grounds.Ground.{Ground}
@@ -38,7 +39,7 @@ closing_of b id why = close id why
 -- The book after the entries; a post takes the next cut or prices, a replace the next plan, a park the group's deck and the case's
 -- turns, and a closing by prices or by a sweep, or a cost that is shown, what the book itself says.
 abbrev pub replay_from :
-    {Break : Type 0} → (Instance → Plan → Option Break) → Book → List Entry → List Cut → List Plan → List (List ℕ) → Book
+    {Break : Type 0} → (Instance → Plan → Option Break) → Book → List Entry → List Cut → List Plan → List PriceList → Book
 replay_from broken b [] cuts plans prices = b
 replay_from broken b (entry.Take w ∷ es) cuts plans prices = replay_from broken (step broken b (take w)).0 es cuts plans prices
 replay_from broken b (entry.Split id ∷ es) cuts plans prices = replay_from broken (step broken b (split id)).0 es cuts plans prices
@@ -57,7 +58,7 @@ replay_from broken b (entry.Release w ∷ es) cuts plans prices = replay_from br
 
 -- the book that a case and an opening plan give, after this history
 abbrev pub replay :
-    {Break : Type 0} → (Instance → Plan → Option Break) → Case → Plan → List Entry → List Cut → List Plan → List (List ℕ) → Book
+    {Break : Type 0} → (Instance → Plan → Option Break) → Case → Plan → List Entry → List Cut → List Plan → List PriceList → Book
 replay broken case plan history cuts plans prices = replay_from broken (opening_book case plan) history cuts plans prices
 
 -- the entries that take a cut, a plan, or prices

@@ -11,7 +11,7 @@ use Rattle.refute_rules.specs.Cuts.{Cut}
 use Rattle.book_rules.specs.declared.book.SlotState.{SlotState}
 use Rattle.book_rules.specs.declared.book.SlotState.TheVariants as slot
 use Rattle.book_rules.specs.Book.{Case, Slot, Book, best_cost, ships_at}
-use Rattle.price_rules.specs.Prices.{PlainCut}
+use Rattle.price_rules.specs.Prices.{PlainCut, PriceList}
 use Rattle.closing_rules.specs.ListedPrices.{cut_in, IsPricedBy, IsSweptBy}
 use Rattle.closing_rules.specs.Grounds.{IsClosedBy}
 
@@ -32,7 +32,7 @@ pub record IsSpentGroup (case : Case) (node : Node) (c p : ℕ) : Type 0 where
   pub clear : HasNoClash (deck_of case.instance c (ships_at node c p))
 
 -- by the state of a slot, with these cuts, prices and best cost; of Back, Held and Split slots nothing is said
-abbrev pub Tells : Case → List Cut → List (List ℕ) → ℕ → Node → ℕ → SlotState → Type 0
+abbrev pub Tells : Case → List Cut → List PriceList → ℕ → Node → ℕ → SlotState → Type 0
 Tells case cuts prices cost node bound slot.Fresh = bound < cost
 Tells case cuts prices cost node bound (slot.Closed why) =
     IsClosedBy case.instance (IsHitBy case.instance cuts) (IsPricedBy case.instance (cuts_in case.instance cuts) prices)
@@ -41,7 +41,7 @@ Tells case cuts prices cost node bound (slot.Closed why) =
 Tells case cuts prices cost node bound (slot.Parked c p) = IsSpentGroup case node c p
 Tells case cuts prices cost node bound _ = ⊤
 
-abbrev pub IsTrueSlot : Case → List Cut → List (List ℕ) → ℕ → Slot → Type 0
+abbrev pub IsTrueSlot : Case → List Cut → List PriceList → ℕ → Slot → Type 0
 IsTrueSlot case cuts prices cost s = Tells case cuts prices cost s.node s.bound s.state
 
 -- The state of each slot is true of its node.

@@ -23,7 +23,7 @@ use Rattle.book_rules.specs.declared.book.Entry.{Entry}
 use Rattle.book_rules.specs.declared.book.ShownLow.{ShownLow}
 use Rattle.book_rules.specs.Same.{same_instance, same_node}
 use Rattle.book_rules.specs.Shown.{Shown, Swept, are_first_cuts}
-use Rattle.book_rules.specs.Tests.{same_deck, has_clash, is_node_hit, is_own_cut}
+use Rattle.book_rules.specs.Tests.{same_deck, has_clash, is_node_hit, is_own_cut, has_shape}
 use Rattle.book_rules.specs.Book.{Slot, Book, slot_at, slot_low, best_cost, new_slot, is_fresh, is_back, is_held, is_held_by, is_parked, is_live, has_slot, first_slot, group_at}
 use Rattle.book_rules.specs.Events.{Event, take, split, close, post, post_prices, close_price, close_swept, show_low, park, replace, release}
 use Rattle.book_rules.specs.Events.{Reply, Node, Made, Closed, LowShown, Posted, Priced, Parked, Replaced, Released}
@@ -117,7 +117,7 @@ refusal_of b id (by.Price number) = Some NotShown
 refusal_of b id (by.Swept number) = Some NotSwept
 
 -- what was shown is of the case's instance, of slot id's node, by these prices and by the first cuts of the book
-abbrev pub is_shown : Book → ℕ → List ℕ → Shown → Bool
+abbrev pub is_shown : Book → ℕ → PriceList → Shown → Bool
 is_shown b id prices shown =
     same_instance shown.instance b.case.instance && same_node shown.node (slot_at b id).node && same_prices shown.prices prices
     && are_first_cuts shown.cuts b.cuts
@@ -186,11 +186,11 @@ show_low_step b id number shown =
     if not (is_live (slot_at b id).state) then (b, NotHeld id)
     else show_unless b id (record { prices = number; cost = shown.cost }) (low_refusal b id number shown (slice_get b.prices number))
 
-abbrev pub priced : {Break : Type 0} → Book → List ℕ → Book × Reply Break
+abbrev pub priced : {Break : Type 0} → Book → PriceList → Book × Reply Break
 priced b prices = (noted (record b { prices = b.prices ++ prices ∷ [] }) entry.Prices, Priced (length b.prices))
 
-abbrev pub post_prices_step : {Break : Type 0} → Book → List ℕ → Book × Reply Break
-post_prices_step b prices = if not (nat_eq (length prices) (length b.case.instance.ships)) then (b, OtherPrices) else priced b prices
+abbrev pub post_prices_step : {Break : Type 0} → Book → PriceList → Book × Reply Break
+post_prices_step b prices = if not (has_shape b.case.instance prices) then (b, OtherPrices) else priced b prices
 
 abbrev pub posted : {Break : Type 0} → Book → Cut → Book × Reply Break
 posted b cut = (noted (record b { cuts = b.cuts ++ cut ∷ [] }) entry.Post, Posted (length b.cuts))

@@ -21,9 +21,13 @@ pub record AreShapedPrices (I : Instance) (prices : PriceList) : Type 0 where
   pub count : length prices.ships ≡ length I.ships
   pub known : All (λ t. t.third < length I.ships) prices.triples
 
+-- prices of ships alone
+abbrev pub ship_prices : List ℕ → PriceList
+ship_prices prices = record { ships = prices; triples = [] }
+
 -- what stands for prices where there are none
 abbrev pub no_prices : PriceList
-no_prices = record { ships = []; triples = [] }
+no_prices = ship_prices []
 
 -- the same prices of the same ships and triples
 abbrev pub same_triple : Triple → Triple → Bool
