@@ -73,13 +73,7 @@ SWEPT = SECOND.replace("certificate", "certificate 4").replace('"tree":[0,0,100,
 SHOWN = SWEPT.replace("certificate 4", "certificate open 4").replace("[[8500,8500]]", "[[8400,8400],[3600,3600]]").replace("[5,0]", "[6,0]")
 
 # three ships of which two at most share a lockage: by these prices the root reaches 165, and with the triple 170
-TRIPLE = SECOND[:SECOND.index("end\n")].replace("232 10 20 5 4", "240 10 20 5 2") + """ship s3 up 1100 114 0 5
-end
-certificate 4
-{"cost":170,"cuts":[],"plan":[{"chamber":0,"ships":[0,1],"spots":[[10,0,0,0],[10,126,1,0]],"start":0,"way":0},\
-{"chamber":0,"ships":[2],"spots":[[10,0,0,0]],"start":55,"way":0}],\
-"prices":[{"ships":[10500,10500,10500],"triples":[[0,1,2,500]]}],"tree":[4,0]}
-"""
+TRIPLE = pathlib.Path(__file__).with_name("triples.dossier").read_text()
 OPEN_TRIPLE = TRIPLE.replace("certificate 4", "certificate open 4").replace("[4,0]", "[6,0]")
 
 # one up and one down, which never share a lockage
