@@ -26,6 +26,7 @@ check_option() {
   case $name in
     -o | --output) refuse "-o needs the name of a file after it, and may stand once"; return ;;
     --clock) check_clock "${1#--clock}" "${2-}"; return ;;
+    --seconds) check_seconds "${1#--seconds}" "${2-}"; return ;;
     --drop | --plan-text) check_replan_word "$name"; return ;;
     --*) ;;
     *) refuse "\"$1\" is no option; options begin with two dashes, and $(what_it_takes)"; return ;;
@@ -91,6 +92,20 @@ check_clock() {
     refuse "--clock is for solve, judge, play, replan and picture, and not for ${command:-this}"
   else
     refuse "--clock needs a time of day after it, such as 06:00, and may stand once"
+  fi
+}
+
+check_seconds() {
+  local text=${1#=}
+  text=${text:-$2}
+  if ! takes_seconds "$command"; then
+    refuse "--seconds is for solve and resume, and not for ${command:-this}"
+  elif ! in_range "$text" 1 86400; then
+    refuse "--seconds takes a whole number from 1 to 86,400${text:+, and not \"$text\"}"
+  elif names_nodes; then
+    refuse "--seconds and --nodes can't stand together"
+  else
+    refuse "--seconds may stand once"
   fi
 }
 

@@ -20,6 +20,9 @@ reads_instance() { [[ " solve judge play replan picture " == *" $1 "* ]]; }
 reads_plan() { [[ " judge play replan picture " == *" $1 "* ]]; }
 reads_dossier() { [[ " check lower resume picture " == *" $1 "* ]]; }
 
+# whether a search of the command can be kept, and so be cut into parts
+takes_seconds() { [[ $1 = solve || $1 = resume ]]; }
+
 # the options that a command takes
 options_of() {
   case $1 in
@@ -35,6 +38,7 @@ options_of() {
 own_options_of() {
   echo "-o"
   if reads_instance "$1"; then echo "--clock"; fi
+  if takes_seconds "$1"; then echo "--seconds"; fi
   if [ "$1" = replan ]; then echo "--drop --plan-text"; fi
 }
 

@@ -102,7 +102,7 @@ end_of_instance() { awk '{ sub(/\r$/, ""); sub(/#.*/, "") } NF == 1 && $1 == "en
 take_nodes() {
   local ships
   [ -n "$input" ] && [ -z "$wrong" ] && [[ " $(options_of "$command") " == *" --nodes "* ]] || return 0
-  [[ " ${program_words[*]} " != *" --nodes"[=\ ]* ]] && ! has_word -- || return 0
+  [ -z "$seconds" ] && ! names_nodes && ! has_word -- || return 0
   ships=$(ships_in "$input")
   if [ "$ships" -gt 48 ]; then
     program_words+=(--nodes 1500)
@@ -110,6 +110,8 @@ take_nodes() {
     program_words+=(--nodes 4000)
   fi
 }
+
+names_nodes() { [[ " ${program_words[*]} " == *" --nodes"[=\ ]* ]]; }
 
 ships_in() { awk '{ sub(/\r$/, ""); sub(/#.*/, "") } $1 == "ship" { ships++ } NF == 1 && $1 == "end" { exit } END { print ships + 0 }' "$1"; }
 

@@ -30,7 +30,7 @@ stop_program() {
 }
 
 start_watch() {
-  watch= begun=$SECONDS
+  watch= begun=${begun:-$SECONDS}
   if is_unproved_run; then
     watch_build &
   elif [ -t 2 ]; then
@@ -50,11 +50,9 @@ end_watch() {
 }
 
 show_time_gone() {
-  local seconds=2
   sleep 2
   while :; do
-    printf '\rglock: at work for %s' "$(minutes $seconds)" >&2
+    printf '\rglock: at work for %s' "$(minutes $((SECONDS - begun)))" >&2
     sleep 1
-    seconds=$((seconds + 1))
   done
 }

@@ -22,11 +22,12 @@ BEGIN {
 {
   gsub(/[ \t\r\n]/, "")
   while (match($0, /"[a-z]+":/)) {
+    count_lists(substr($0, 1, RSTART - 1))
     if (index(substr($0, 1, RSTART), "{")) begin_object()
     take_key(substr($0, RSTART + 1, RLENGTH - 3))
     $0 = substr($0, RSTART + RLENGTH)
   }
-  if (section == "prices") lists += gsub(/\[/, "[")
+  count_lists($0)
   gsub(/[^0-9]/, "")
   if ($0 != "") take_number($0)
 }
@@ -42,12 +43,22 @@ function take_heading() {
 function begin_object() {
   if (section == "cuts") cuts++
   if (section == "plan") lockages++
+  if (section == "prices") lists++
+}
+
+# lists of prices, and the triples of an object with such a list
+function count_lists(text) {
+  if (section != "prices") return
+  if (field == "prices") lists += gsub(/\[/, "[", text)
+  if (field == "triples") triples += gsub(/\[/, "[", text)
+  if (text ~ /}/) field = "prices"
 }
 
 function take_key(key) {
   if (key ~ /^(cost|cuts|plan|prices|tree)$/) { section = key; keys++ }
-  # the list of all lists isn't one of them
+  # the list of all lists isn't one of them, nor that of all triples
   if (key == "prices") lists--
+  if (key == "triples") triples--
   field = key
 }
 
@@ -89,6 +100,7 @@ END {
   tell("lockages", lockages + 0)
   tell("cost", cost)
   tell("price lists", lists + 0)
+  if (triples) tell("triples", triples)
   tell("cuts", cuts + 0)
   tell("nodes", nodes + 0)
   for (k = 1; k <= kinds; k++) if (kind_names[k] in count) tell("  " kind_names[k], count[kind_names[k]])

@@ -1,9 +1,9 @@
 # The words of the command line: which are for the script, and which for the program.
 # A word that the script can't use goes to the program, which then answers that the words are bad.
 
-# sets command, program_words, files, output, clock, plan_clock, drops, as_plan_text and wants_help
+# sets command, program_words, files, output, clock, plan_clock, seconds, drops, as_plan_text and wants_help
 split_words() {
-  command= output= clock= as_plan_text=false wants_help=false ended=false
+  command= output= clock= seconds= as_plan_text=false wants_help=false ended=false
   program_words=() files=() drops=()
   while [ $# -gt 0 ]; do
     take_word "$@"
@@ -15,6 +15,10 @@ split_words() {
   if [ -n "$clock" ] && ! { reads_instance "$command" && is_time_of_day "$clock"; }; then
     program_words+=(--clock "$clock")
     clock=
+  fi
+  if [ -n "$seconds" ] && ! may_take_seconds; then
+    program_words+=(--seconds "$seconds")
+    seconds=
   fi
   # What `replan` alone takes, and a dossier is no plan.
   if [ "$command" != replan ]; then
@@ -70,6 +74,8 @@ take_word() {
     -o?* | --output=?*) [ -z "$output" ] && output=$(text_of "$1") || program_words+=(-o) ;;
     --clock) [ -z "$clock" ] && take_text "$@" && clock=$2 || program_words+=(--clock) ;;
     --clock=?*) [ -z "$clock" ] && clock=${1#*=} || program_words+=("$1") ;;
+    --seconds) [ -z "$seconds" ] && take_text "$@" && seconds=$2 || program_words+=(--seconds) ;;
+    --seconds=?*) [ -z "$seconds" ] && seconds=${1#*=} || program_words+=("$1") ;;
     --plan-text) if $as_plan_text; then program_words+=("$1"); fi; as_plan_text=true ;;
     --drop) take_text "$@" && drops+=("$2") || program_words+=("$1") ;;
     --drop=?*) drops+=("${1#*=}") ;;

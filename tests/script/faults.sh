@@ -29,6 +29,15 @@ lot --ships x | from 1 to 96, and not "x"
 lot --chambers | from 1 to 4
 lot --ships 97 | from 1 to 96, and not "97"
 solve --nodes 5 --nodes 5 | --nodes stands twice
+solve --seconds 0 | --seconds takes a whole number from 1 to 86,400, and not "0"
+solve --seconds | --seconds takes a whole number from 1 to 86,400
+solve --seconds=x | from 1 to 86,400, and not "x"
+resume --seconds 86401 | and not "86401"
+solve --seconds 5 --nodes 5 | --seconds and --nodes can't stand together
+solve --nodes=5 --seconds=5 | --seconds and --nodes can't stand together
+solve --seconds 5 --seconds 5 | --seconds may stand once
+check --seconds 5 | --seconds is for solve and resume, and not for check
+replan --seconds 5 | --seconds is for solve and resume, and not for replan
 solve --keep=1 | --keep stands alone
 check --keep | --keep isn't for check; check takes -o
 replan evening.lock evening.plan | replan needs --now and the minute that it is, or --from

@@ -39,6 +39,7 @@ tabled() {
   check "table: $1" gives "$2" "$3" "${4-}"
 }
 "$GLOCK_PROGRAM" judge <<<"$(cat "$room/evening.lock" "$room/evening.plan")" >"$room/judged.report"
+sed 's/"prices":\[/"prices":[[0,0,0],/; s/500\]\]}\]/500],[0,1,95,3]]},[1,2,3]]/' "$top/tests/checker/triples.dossier" >"$room/triples.dossier"
 rows tabled <<'ROWS'
 table days | 1 | days/friday.lock   no report
 table days | 1 | days/monday.lock   optimal
@@ -63,6 +64,9 @@ stats spaced.dossier | 0 | price lists 2
 stats spaced.dossier | 0 | nodes       5
 stats spaced.dossier | 0 | open      2
 stats spaced.dossier | 0 | cut 0       c1 row s1 s2
+stats triples.dossier | 0 | price lists 3
+stats triples.dossier | 0 | triples     2
+stats triples.dossier | 0 | nodes       1
 stats two.open | 0 | dossier     open, version 2
 stats plain.report | 7 | | plain.report: this is no dossier
 stats two.open two.open | 2 | | stats takes the name of one dossier
