@@ -3,7 +3,11 @@ ghost use Rattle.std.specs.Prelude.{◌≡◌, ◌+◌, ◌<◌, ◌≤◌, ◌<
 ghost use Rattle.std.specs.Bool.{OnTrue, OnFalse};
 ghost use Rattle.price_raise.specs.Raising.{IsWeighed};
 
+use crate::picking::picked;
+use crate::raised::RaisedTriples;
+use crate::recent::Recent;
 use crate::stands::Stands;
+use crate::steps::{Step, WHOLE_STRIDE, exact, gap_to, turned, whole, with_square};
 use lock_model::SHIPS;
 use price_terms::Prices;
 
@@ -19,8 +23,9 @@ pub struct Pace {
     pub spans: u32,
 }
 
-/// Prices that are tried, the best ones so far with what they reach, how the next step is made, what the
-/// best prices reached when the span began, and how many steps of it were made.
+/// Prices that are tried, the best ones so far with what they reach, how the next step is made, the groups
+/// of the least lines of late, what the best prices reached when the span began, and how many steps of it
+/// were made.
 #[derive(Drop)]
 pub struct Ascent {
     tried: Prices,
@@ -28,6 +33,8 @@ pub struct Ascent {
     best_sum: i64,
     exact: [i64; SHIPS],
     direction: [i64; SHIPS],
+    triples: RaisedTriples,
+    recent: Recent,
     stride: i64,
     idle: u32,
     mark: i64,
@@ -35,83 +42,62 @@ pub struct Ascent {
     pace: Pace,
 }
 
-// A whole step; steps and prices are reckoned in fractions of 65,536 and 256, directions in fractions
-// of 1,024.
-const WHOLE_STRIDE: i64 = 65_536;
+// A further ascent begins near the best prices, with a quarter of a stride.
+const FURTHER_STRIDE: i64 = WHOLE_STRIDE / 4;
 
-const FINE: i64 = 256;
-
-const ONCE: i64 = 1_024;
-// The least and the greatest gap to the goal that steps are reckoned with, in hundredths of a minute.
-const LEAST_GAP: i64 = 50;
-
-const MOST_GAP: i64 = 10_000_000;
-// The greatest price, in the same fractions as prices.
-const MOST: i64 = 1_000_000 * FINE;
-
-// Prices in fractions of 256.
+// The exact prices of ships.
 fn exact_of(prices: &Prices) -> [i64; SHIPS] {
-    let mut exact = [0; SHIPS];
+    let mut all = [0; SHIPS];
     for (ship, &price) in prices.as_slice().iter().enumerate() {
-        exact[ship] = price as i64 * FINE;
+        all[ship] = exact(price);
     }
-    exact
+    all
 }
 
-// The prices of so many ships, of fractions of 256.
+// The whole prices of so many ships.
 fn prices_of(exact: &[i64; SHIPS], ships: usize) -> Prices
     requires { ships ≤ SHIPS }
-    ensures { length result ≡ ships }
+    ensures { length result.ships ≡ ships }
 {
-    let mut whole = [0; SHIPS];
+    let mut prices = [0; SHIPS];
     for ship in 0..ships {
-        whole[ship] = (exact[ship].clamp(0, MOST) / FINE) as u32;
+        prices[ship] = whole(exact[ship]);
     }
-    Prices::capped(&whole[..ships])
+    Prices::capped(&prices[..ships])
 }
 
 // The squares of the directions, added.
 fn norm_of(direction: &[i64; SHIPS]) -> i64 {
     let mut norm: i64 = 0;
     for &part in direction {
-        norm = norm.saturating_add(part.saturating_mul(part));
+        norm = with_square(norm, part);
     }
     norm
 }
 
-// How far the sum of the least lines and the prices is below the goal.
-fn gap_to(goal: u64, sum: i64) -> i64 {
-    let goal = goal.min(MOST_GAP as u64) as i64 * 100;
-    goal.saturating_sub(sum).clamp(LEAST_GAP, MOST_GAP)
-}
-
-// Turns the direction: of what it was so many tenths are kept, and a missing ship pulls by how often it
-// is lacking.
+// Turns the direction: a missing ship pulls by how often it is lacking.
 fn turn(direction: &mut [i64; SHIPS], missing: &[u8], stands: &Stands, kept: u32) {
     for &ship in missing {
         if (ship as usize) < SHIPS {
-            let before = direction[ship as usize].saturating_mul(kept as i64) / 10;
-            let lacking = 1i64.saturating_sub(stands.of(ship)).saturating_mul(ONCE);
-            direction[ship as usize] = before.saturating_add(lacking);
+            let lacking = 1i64.saturating_sub(stands.of(ship));
+            direction[ship as usize] = turned(direction[ship as usize], kept, lacking);
         }
     }
 }
 
-// Goes so far along the direction, of which this is the norm.
-fn go(exact: &mut [i64; SHIPS], direction: &[i64; SHIPS], missing: &[u8], stride: i64, norm: i64)
-    requires { pos 0 <ℤ norm }
+// Makes a step along the direction.
+fn go(exact: &mut [i64; SHIPS], direction: &[i64; SHIPS], missing: &[u8], step: Step)
+    requires { pos 0 <ℤ step.norm }
 {
     for &ship in missing {
         if (ship as usize) < SHIPS {
-            let step = stride.saturating_mul(direction[ship as usize]) / norm;
-            let price = exact[ship as usize].saturating_add(step);
-            exact[ship as usize] = price.clamp(0, MOST);
+            exact[ship as usize] = step.from(exact[ship as usize], direction[ship as usize]);
         }
     }
 }
 
 impl Ascent {
-    /// An ascent that begins with these prices.
+    /// An ascent that begins with these prices. Those of their triples stay until it is widened.
     pub fn new(start: Prices, pace: Pace) -> Ascent
         ensures tried { result.tried ≡ start }
         ensures best { result.best ≡ start }
@@ -122,6 +108,8 @@ impl Ascent {
             best_sum: i64::MIN,
             exact: exact_of(&start),
             direction: [0; SHIPS],
+            triples: RaisedTriples::of(&start),
+            recent: Recent::new(),
             stride: WHOLE_STRIDE,
             idle: 0,
             mark: i64::MIN,
@@ -169,6 +157,7 @@ impl Ascent {
             self.idle += 1;
         } else {
             self.exact = exact_of(&self.best);
+            self.triples.go_back(&self.best);
             self.stride = self.stride / 3 * 2;
             self.idle = 0;
         }
@@ -199,24 +188,73 @@ impl Ascent {
     /// the goal is out of sight.
     pub fn raise(&mut self, missing: &[u8], stands: &Stands, sum: i64, goal: u64) -> bool
         ensures weighed { IsWeighed self.old sum self.new }
-        ensures shape { length self.new.tried ≡ length self.old.tried }
+        ensures shape { length self.new.tried.ships ≡ length self.old.tried.ships }
         ensures fewer { OnTrue result (self.new.pace.steps + 1 ≡ self.old.pace.steps) }
         ensures same { OnFalse result (self.new.tried ≡ self.old.tried) }
     {
         self.weigh(sum);
+        self.recent.note(stands);
         turn(&mut self.direction, missing, stands, self.pace.kept);
-        let norm = norm_of(&self.direction);
+        self.triples.turn(stands, self.pace.kept);
+        let norm = self.triples.with_squares(norm_of(&self.direction));
         let hopeless = self.is_hopeless(goal);
         if hopeless || self.pace.steps == 0 || norm <= 0 {
             return false;
         }
         self.pace.steps -= 1;
-        let stride = self
+        let reach = self
             .stride
             .saturating_mul(gap_to(goal, sum))
             .saturating_mul(4);
-        go(&mut self.exact, &self.direction, missing, stride, norm);
-        self.tried = prices_of(&self.exact, self.tried.as_slice().len());
+        let step = Step { reach, norm };
+        go(&mut self.exact, &self.direction, missing, step);
+        self.triples.go(step);
+        self.tried = self.prices();
+        true
+    }
+
+    // The whole prices of the exact ones.
+    fn prices(&self) -> Prices
+        ensures { length result.ships ≡ length self.now.tried.ships }
+    {
+        let ships = self.tried.as_slice().len();
+        self.triples.with(prices_of(&self.exact, ships))
+    }
+
+    // Goes back to the best prices so far, to ascend from there at another pace, with triples too.
+    fn go_on(&mut self, pace: Pace)
+        ensures best { self.new.best ≡ self.old.best }
+        ensures best_sum { self.new.best_sum ≡ self.old.best_sum }
+        ensures tried { self.new.tried ≡ self.old.tried }
+        ensures pace { self.new.pace ≡ pace }
+    {
+        self.exact = exact_of(&self.best);
+        self.direction = [0; SHIPS];
+        self.triples.go_back(&self.best);
+        self.triples.free();
+        self.stride = FURTHER_STRIDE;
+        self.idle = 0;
+        self.mark = i64::MIN;
+        self.walked = pace.span;
+        self.pace = pace;
+    }
+
+    /// Begins a further ascent from the best prices so far, at this pace and with smaller steps: triples
+    /// that groups of the least lines had more than once of late get a price, and from now on the prices of
+    /// all triples are raised. Whether there are such triples; else all is as before.
+    pub fn widen(&mut self, pace: Pace) -> bool
+        ensures best { self.new.best ≡ self.old.best }
+        ensures best_sum { self.new.best_sum ≡ self.old.best_sum }
+        ensures shape { length self.new.tried.ships ≡ length self.old.tried.ships }
+    {
+        let ships = self.tried.as_slice().len() as u8;
+        let picks = picked(&self.recent, &self.triples, ships);
+        if picks.is_empty() {
+            return false;
+        }
+        self.go_on(pace);
+        self.triples.add_all(picks.as_slice());
+        self.tried = self.prices();
         true
     }
 }

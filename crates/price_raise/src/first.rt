@@ -25,7 +25,7 @@ fn put_costs(instance: &Instance, lockage: &Lockage, costs: &mut [u32; SHIPS])
 pub fn first_prices(instance: &Instance, plan: &Plan) -> Prices
     requires chambers_in { All (λ l. l.chamber < length instance.now.chambers) plan.now.lockages }
     requires ships_in { All (λ l. All (λ s. s < length instance.now.ships) l.ships) plan.now.lockages }
-    ensures { length result ≡ length instance.now.ships }
+    ensures { length result.ships ≡ length instance.now.ships }
 {
     let mut costs = [0; SHIPS];
     for lockage in plan.lockages.as_slice() {

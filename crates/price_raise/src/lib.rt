@@ -8,17 +8,29 @@
 //! that shrink (Held, Wolfe and Crowder, Validation of subgradient optimization, Mathematical
 //! Programming 6, 1974; Fisher, The Lagrangian relaxation method, Management Science 27, 1981).
 //!
-//! - `first_prices`: what each ship costs in a plan.
-//! - `Stands`: how often each ship stands in lines.
-//! - `Ascent`: prices that are tried, and the best ones so far. Steps are whole numbers.
+//! A triple of ships gets dearer while several groups have two of the three, of which one at most may. So
+//! many triples could have a price that only some get one, once an ascent ends (`Ascent::widen`): those that
+//! groups of the least lines had more than once a round of late, which stand for a plan in fractions (cutting
+//! planes in a subgradient ascent, as in: Lucena, Non delayed relax-and-cut algorithms, Annals of Operations
+//! Research 140, 2005).
 //!
-//! Nothing is claimed of the prices but their shape: one for each ship, none above 1,000,000, which the
-//! contracts of `Ascent` keep. No call takes memory. `specs/Raising` says what an ascent keeps.
+//! - `first_prices`: what each ship costs in a plan.
+//! - `Stands`: how often each ship stands in lines, and the groups in which it does.
+//! - `Ascent`: prices that are tried, and the best ones so far. Steps are whole numbers (`steps`). `raised`:
+//!   the triples, `recent`: groups of late, `picking`: which triples get a price.
+//!
+//! Nothing is claimed of the prices but their shape: one for each ship and at most `TRIPLES` of triples, none
+//! above 1,000,000, which the contracts of `Ascent` and `Prices` keep. No call takes memory. `specs/Raising`
+//! says what an ascent keeps.
 #![tactic(auto)]
 
 mod ascent;
 mod first;
+mod picking;
+mod raised;
+mod recent;
 mod stands;
+mod steps;
 
 pub use ascent::{Ascent, Pace};
 pub use first::first_prices;

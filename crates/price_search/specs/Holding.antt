@@ -1,6 +1,8 @@
 -- What becomes of a slot that is held, as events change the hand of who holds it.
 use Rattle.std.specs.Prelude.{Bool, true, false, Ok, Err}
 use Rattle.std.specs.declared.result.Result.{Result}
+use Rattle.price_search.specs.declared.ending.AfterAscent.{AfterAscent}
+use Rattle.price_search.specs.declared.ending.AfterAscent.TheVariants as After
 use Rattle.price_search.specs.declared.sweeping.AfterSweep.{AfterSweep}
 use Rattle.price_search.specs.declared.sweeping.AfterSweep.TheVariants.{Closed, Again, Open}
 
@@ -24,3 +26,10 @@ was_ended (Ok Closed) = true
 was_ended (Ok Again) = false
 was_ended (Ok Open) = false
 was_ended (Err stop) = false
+
+-- whether it was closed by what comes after an ascent
+abbrev pub was_swept : {Stop : Type 0} → Result AfterAscent Stop → Bool
+was_swept (Ok After.Closed) = true
+was_swept (Ok After.Ascend) = false
+was_swept (Ok After.Split) = false
+was_swept (Err stop) = false

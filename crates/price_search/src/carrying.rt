@@ -3,10 +3,10 @@ ghost use Rattle.master_branch.specs.Node.{IsNodeOf};
 ghost use Rattle.price_search.specs.Holding.{Stays, Ends, was_closed};
 
 use crate::desk::{Desk, InHand};
+use crate::ending::{AfterAscent, end_ascent};
 use crate::found::carry_out;
 use crate::pricing::{MOST_AT_A_NODE, Pricing};
 use crate::round::{Round, RoundEnd};
-use crate::sweeping::sweep_root;
 use placed_groups::Memory;
 use price_terms::Prices;
 
@@ -76,28 +76,7 @@ fn close_by<D: Desk>(
     Ok(closed)
 }
 
-// Closes the held slot by sweeps, where it is the root; else it leaves its prices to the nodes below it.
-// Whether it was closed.
-fn sweep_or_leave<D: Desk>(
-    desk: &D,
-    hand: &mut D::Hand,
-    memory: &mut Memory,
-    pricing: &mut Pricing,
-    held: &InHand<'_>,
-) -> Result<bool, D::Stop>
-    requires serves { D.serves desk.now hand.old }
-    requires node { IsNodeOf (D.instance desk.now) held.now.node.now }
-    ensures serves { D.serves desk.now hand.new }
-    ensures ends { Ends (D.holds desk.now held.now) (D.freed desk.now) hand.old hand.new (was_closed result) }
-{
-    if held.node.depth() == 0 && sweep_root(desk, hand, memory, pricing, held)? {
-        return Ok(true);
-    }
-    desk.leave(pricing, held)?;
-    Ok(false)
-}
-
-// Makes rounds until the slot is closed or prices show no more; whether it was closed.
+// Makes rounds, ascent by ascent, until the slot is closed or prices show no more; whether it was closed.
 fn make_rounds<D: Desk>(
     desk: &D,
     hand: &mut D::Hand,
@@ -114,7 +93,11 @@ fn make_rounds<D: Desk>(
         match make_round(desk, hand, memory, pricing, held)? {
             RoundEnd::Again => {}
             RoundEnd::Reached(prices) => return close_by(desk, hand, pricing, held, &prices),
-            RoundEnd::Open => return sweep_or_leave(desk, hand, memory, pricing, held),
+            RoundEnd::Open => match end_ascent(desk, hand, memory, pricing, held)? {
+                AfterAscent::Closed => return Ok(true),
+                AfterAscent::Ascend => {}
+                AfterAscent::Split => return Ok(false),
+            },
         }
     }
     Ok(false)

@@ -9,7 +9,10 @@
 //! `price` makes the rounds of a node in hand, and carries out what they find: it posts the new cuts, gives
 //! the plan to the book, and closes the node where prices reach the best cost. Where they don't at the root,
 //! it sweeps costs from what they reach up to the best cost: that closes the root too, or an uncut plan
-//! is found that costs less, whose groups are placed. It reaches the book through
+//! is found that costs less, whose groups are placed. Few labels are made first. If they don't close the root,
+//! some triples of ships get prices, and another ascent begins from the best prices so far, up to
+//! three times; then many labels are made. Triples are raised at the root alone: nodes below it keep them at
+//! the prices that they have there. It reaches the book through
 //! a `Desk`. A driver's is the book in its hand, a worker's a book that several share; each says by its ghost
 //! members what holds of a hand while the slot is held, and once it is closed.
 //!
@@ -18,7 +21,7 @@
 //! a search comes to an end: all rounds together are limited.
 //!
 //! - `pricing`: what is kept, `offers`: what nodes leave to those below them. `round`: one round. `placing`: groups of loose lines and of uncut plans, placed.
-//! - `carrying`: a node's rounds. `sweeping`: the root, swept. `found`: what either finds, carried out. `desk`: where.
+//! - `carrying`: a node's rounds. `ending`: what comes after an ascent. `sweeping`: the root, swept. `found`: what either finds, carried out. `desk`: where.
 //!
 //! Definitions: `specs/Serving` says where rounds may be made, `Showing` what is shown of a node, and
 //! `Holding` what becomes of a slot that is held.
@@ -27,6 +30,7 @@
 mod appending;
 mod carrying;
 mod desk;
+mod ending;
 mod found;
 mod offers;
 mod placing;

@@ -19,9 +19,13 @@ use sweep::{SweepAsked, SweepLimits, SweepOutcome, sweep};
 // The most rounds in a search, and the most at the first node that prices can serve and at any other.
 const MOST_ROUNDS: u32 = 10_000;
 // The most rounds that are tried at a node; the pricing ends them before.
-pub(crate) const MOST_AT_A_NODE: u32 = 1_000;
-// The most labels of one sweep, which take some 260 bytes each while it lasts.
-const MOST_LABELS_AT_ONCE: u64 = 650_000;
+pub(crate) const MOST_AT_A_NODE: u32 = 2_000;
+/// The most labels of one sweep, which take some 260 bytes each while it lasts.
+pub(crate) const MOST_LABELS_AT_ONCE: u64 = 650_000;
+/// The most labels of one sweep while a further ascent may still bring the goal nearer.
+pub(crate) const FEW_LABELS_AT_ONCE: u64 = 30_000;
+// The most ascents at the root after its first one, each with more triples.
+const MORE_ASCENTS: u32 = 3;
 // With fewer missing ships a node is searched faster than prices are worked out.
 const FEWEST_MISSING: usize = 5;
 
@@ -64,6 +68,15 @@ const LASTING_PACE: Pace = Pace {
     spans: 200,
 };
 
+// A further ascent begins near the best prices, and triples turn slowly.
+const MORE_PACE: Pace = Pace {
+    steps: 400,
+    kept: 9,
+    patience: 15,
+    span: 80,
+    spans: 40,
+};
+
 const PACE: Pace = Pace {
     steps: 40,
     kept: 3,
@@ -95,6 +108,16 @@ impl FirstNode {
             FirstNode::Lasting => LASTING_PACE,
         }
     }
+
+    // How many ascents with triples may follow the first one at the root. Where chambers take two ships at a
+    // time, a third one gains little; a table of many ships takes too long.
+    fn more_ascents(self) -> u32 {
+        match self {
+            FirstNode::Long | FirstNode::Brief => MORE_ASCENTS,
+            FirstNode::Steady => MORE_ASCENTS - 1,
+            FirstNode::Lasting => 0,
+        }
+    }
 }
 
 /// The greatest cost, in minutes, that a sum of least lines and prices, in hundredths, reaches.
@@ -112,13 +135,14 @@ fn copy_cuts(alloc: Global, cuts: &[ChamberCut]) -> Result<Vec<ChamberCut>, NoMe
 }
 
 /// The prices of the nodes on the way from the root to the one in hand, those that are raised at the
-/// node in hand, how soon the first node is left, the first cuts of the book, how many rounds and how many
-/// labels of sweeps may be made still, and least lines that are kept from call to call.
+/// node in hand, how soon the first node is left, the first cuts of the book, how many further ascents at
+/// the root, rounds and labels of sweeps may be made still, and least lines that are kept from call to call.
 #[derive(Drop)]
 pub struct Pricing {
     pub(crate) path: Vec<Offer>,
     pub(crate) ascent: Ascent,
     pub(crate) first: FirstNode,
+    pub(crate) ascents: u32,
     pub(crate) left: u32,
     pub(crate) labels: u64,
     pub(crate) is_first: bool,
@@ -143,6 +167,7 @@ impl Pricing {
             path,
             ascent,
             first,
+            ascents: first.more_ascents(),
             left: MOST_ROUNDS,
             labels,
             is_first: true,
@@ -230,6 +255,19 @@ impl Pricing {
         !self.is_first || self.left % 2 == 0
     }
 
+    /// Whether further ascents may be made at the root.
+    pub(crate) fn may_ascend(&self) -> bool {
+        self.ascents > 0
+    }
+
+    /// Begins a further ascent at the root, from its best prices and with more triples; whether there are
+    /// any. It isn't the first node any more then: groups of lines aren't placed again, and a plan is made
+    /// in each round, which was measured to find better plans sooner.
+    pub(crate) fn ascend_again(&mut self) -> bool {
+        self.ascents = self.ascents.saturating_sub(1);
+        self.ascent.widen(MORE_PACE)
+    }
+
     /// The same, as it is to go on below the node in hand, with all rounds to be made still.
     pub fn copy(&self, alloc: Global) -> Result<Pricing, NoMemory> {
         let mut path = Vec::new(alloc);
@@ -238,6 +276,7 @@ impl Pricing {
             path,
             ascent: Ascent::new(self.ascent.best().copy(), PACE),
             first: self.first,
+            ascents: 0,
             left: MOST_ROUNDS,
             labels: self.labels,
             is_first: self.is_first,
@@ -290,15 +329,17 @@ impl Pricing {
     }
 
     /// Sweeps a cost, in minutes, by these prices and the book's first cuts. None where that takes more
-    /// than `LIMITS` or the labels of one sweep or those that are left, which is tried no more then, or for
-    /// want of memory.
+    /// than `LIMITS` or so many labels or those that are left, or for want of memory; then the labels that
+    /// it might have made are spent.
     pub(crate) fn sweep<'a>(
         &'a mut self,
         alloc: Global,
         instance: &'a Instance,
         prices: &'a Prices,
         goal: u64,
+        at_once: u64,
     ) -> Option<SweepOutcome<'a>> {
+        let most_labels = self.labels.min(at_once);
         let asked = SweepAsked {
             instance,
             cuts: self.cuts.as_slice(),
@@ -306,7 +347,7 @@ impl Pricing {
             goal,
         };
         let limits = SweepLimits {
-            labels: self.labels.min(MOST_LABELS_AT_ONCE) as usize,
+            labels: most_labels as usize,
             groups: LIMITS.groups,
             turns: LIMITS.turns,
         };
@@ -316,7 +357,7 @@ impl Pricing {
                 Some(outcome)
             }
             Err(_) => {
-                self.labels = 0;
+                self.labels = self.labels.saturating_sub(most_labels);
                 None
             }
         }

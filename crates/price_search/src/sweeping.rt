@@ -14,12 +14,13 @@ const MOST_SWEEPS: u32 = 200;
 // A sweep that made fewer labels cost next to nothing.
 const FEW_LABELS: u64 = 4_000;
 
-// Costs, in minutes, that are swept one after the other. What a sweep takes hangs on how far its goal is
-// above what prices reach, so goals rise from there.
+// Costs, in minutes, that are swept one after the other, each with so many labels at the most. What a sweep
+// takes hangs on how far its goal is above what prices reach, so goals rise from there.
 #[derive(Clone, Copy)]
 struct Goals {
     reached: u64,
     distance: u64,
+    labels: u64,
 }
 
 impl Goals {
@@ -112,7 +113,7 @@ fn sweep_once<D: Desk>(
     let best = desk.best_cost(hand, held);
     let goal = goals.next(best);
     let prices = pricing.ascent.best().copy();
-    let outcome = pricing.sweep(desk.alloc(), desk.instance(), &prices, goal);
+    let outcome = pricing.sweep(desk.alloc(), desk.instance(), &prices, goal, goals.labels);
     let Some(SweepOutcome { end, labels }) = outcome else {
         return Ok(AfterSweep::Open);
     };
@@ -127,13 +128,14 @@ fn sweep_once<D: Desk>(
 }
 
 /// Sweeps costs from what the root reaches by its best prices up to the best cost, which closes it, as
-/// far as labels are left; whether it was closed.
+/// far as labels are left and no sweep takes more than so many; whether it was closed.
 pub(crate) fn sweep_root<D: Desk>(
     desk: &D,
     hand: &mut D::Hand,
     memory: &mut Memory,
     pricing: &mut Pricing,
     held: &InHand<'_>,
+    labels: u64,
 ) -> Result<bool, D::Stop>
     requires serves { D.serves desk.now hand.old }
     requires node { IsNodeOf (D.instance desk.now) held.now.node.now }
@@ -143,6 +145,7 @@ pub(crate) fn sweep_root<D: Desk>(
     let mut goals = Goals {
         reached: reached_by(pricing.ascent.best_sum()),
         distance: 1,
+        labels,
     };
     for _ in 0..MOST_SWEEPS {
         match sweep_once(desk, hand, memory, pricing, held, &mut goals)? {

@@ -42,15 +42,13 @@ const SMALL_BUDGET: u32 = 1_000;
 // rounds cost little.
 const FEW_AT_A_TIME: u8 = 2;
 
-// How many labels all sweeps of a search may make for each node of the budget, and at the most; of a large
-// instance, whose tree is closed by nothing else, many more.
+// How many labels all sweeps of a search may make for each node of the budget, and at the most. A large
+// instance, whose tree is closed by nothing else, gets its share from a smaller budget.
 const LABELS_A_NODE: u64 = 100;
-
-const MOST_LABELS: u64 = 400_000;
 
 const LABELS_A_NODE_OF_LARGE: u64 = 1_000;
 
-const MOST_LABELS_OF_LARGE: u64 = 2_000_000;
+const MOST_LABELS: u64 = 2_000_000;
 
 /// How many nodes of a case are searched before it is told whether it is hard: all of a small budget.
 pub(crate) fn first_nodes(case: &Case) -> u32 {
@@ -125,12 +123,12 @@ fn first_node(case: &Case, workers: u8) -> FirstNode {
 
 // How many labels all sweeps of a search may make.
 fn most_labels(case: &Case) -> u64 {
-    let (a_node, most) = if case.instance.is_large() {
-        (LABELS_A_NODE_OF_LARGE, MOST_LABELS_OF_LARGE)
+    let a_node = if case.instance.is_large() {
+        LABELS_A_NODE_OF_LARGE
     } else {
-        (LABELS_A_NODE, MOST_LABELS)
+        LABELS_A_NODE
     };
-    (case.nodes as u64).saturating_mul(a_node).min(most)
+    (case.nodes as u64).saturating_mul(a_node).min(MOST_LABELS)
 }
 
 // Prices to begin with: what each ship costs in the best plan.
