@@ -1,6 +1,7 @@
 //! Worked rows of the bound by prices.
 mod greatest;
 mod locks;
+mod triples;
 
 use crate::walk::node_at;
 use lock_model::Instance;
@@ -21,6 +22,22 @@ const ENOUGH: Limits = Limits {
 // The path of a node, prices, their sum there, and the greatest cost that is reached, if there is one.
 type Row = (&'static [u32], &'static [u32], i64, Option<u64>);
 
+// Holds the sum at a node, and the greatest cost that it reaches, against the bound.
+fn expect(
+    rt: &impl Abort,
+    kept: &mut KeptLines,
+    asked: &PricedNode<'_>,
+    sum: i64,
+    greatest: Option<u64>,
+) -> Result<(), Fail> {
+    assert!(rt; price_sum(kept, asked, ENOUGH) == Ok(Some(sum)));
+    for cost in 0..300 {
+        let reached = greatest.is_some_and(|greatest| cost <= greatest);
+        assert!(rt; reaches(kept, asked, cost, ENOUGH) == Ok(reached));
+    }
+    Ok(())
+}
+
 // Holds a row against the bound, whatever was kept before.
 fn check(
     rt: &impl Abort,
@@ -38,12 +55,7 @@ fn check(
         prices: &prices,
         cuts,
     };
-    assert!(rt; price_sum(kept, &asked, ENOUGH) == Ok(Some(sum)));
-    for cost in 0..300 {
-        let reached = greatest.is_some_and(|greatest| cost <= greatest);
-        assert!(rt; reaches(kept, &asked, cost, ENOUGH) == Ok(reached));
-    }
-    Ok(())
+    expect(rt, kept, &asked, sum, greatest)
 }
 
 // Holds rows against the bound of an instance.

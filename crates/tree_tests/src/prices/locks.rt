@@ -53,3 +53,20 @@ pub(super) fn two_chambers() -> Option<Instance> {
     ships.push(small_ship(b'u', Way::Up, (700, 60), 6, 3));
     Instance::new(chambers, ships)
 }
+
+// Three ships that go up from minute 0, of which any two may share a lockage of the one chamber and three
+// may not; and where it is wanted, a fourth, which comes at minute 60.
+pub(super) fn three(fourth: bool) -> Option<Instance> {
+    let mut lock = chamber(b'a', 240);
+    lock.most = 2;
+    let mut chambers = Chambers::new();
+    chambers.push(lock);
+    let mut ships = ShipList::new();
+    ships.push(ship(b's', Way::Up, 0));
+    ships.push(ship(b't', Way::Up, 0));
+    ships.push(ship(b'u', Way::Up, 0));
+    if fourth {
+        ships.push(ship(b'v', Way::Up, 60));
+    }
+    Instance::new(chambers, ships)
+}
