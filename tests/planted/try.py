@@ -59,13 +59,14 @@ def check_words(crate, used, function):
 
 def changed_function(bug):
     """What to ask the prover for: the function in which the bug's last change lies, which is the last that begins
-    before it, or the whole module where the crate has several of that name."""
+    before it, or its whole module where the crate has another function or a module of that name."""
     source = bug.source()
     old = bug.changes[-1][0]
     name = re.findall(r"\bfn (\w+)", source[: source.index(old) + len(old)])[-1]
     count = 0
     for folder, _, files in os.walk(f"{TOP}/crates/{bug.crate}/src"):
         for file in files:
+            count += file == f"{name}.rt"
             with open(f"{folder}/{file}", encoding="utf-8") as text:
                 count += len(re.findall(rf"\bfn {name}\b", text.read()))
     return name if count == 1 else bug.file.removeprefix("src/").removesuffix(".rt").replace("/", "::")
