@@ -75,14 +75,14 @@ fn make_counted(book: &mut Book, event: Event) -> Reply
 pub fn apply<L: Ledger>(kept: &mut Kept<L>, share: &mut Share<L>, event: Event) -> Reply
     requires part { 0 < share.old.parts }
     requires allowed { IsAllowed event }
-    ensures step { Applies kept.old.book event result kept.new.book }
-    ensures refused { OnFalse (is_accepting result) (kept.new.book ≡ kept.old.book) }
-    ensures case { kept.new.book.case ≡ kept.old.book.case }
+    ensures step { Applies kept.old.book.value event result kept.new.book.value }
+    ensures refused { OnFalse (is_accepting result) (kept.new.book.value ≡ kept.old.book.value) }
+    ensures case { kept.new.book.value.case ≡ kept.old.book.value.case }
     ensures total { kept.new.tally.total ≡ kept.old.tally.total + accepted result }
     ensures amount { share.new.amount ≡ share.old.amount + accepted result }
     ensures parts { share.new.parts ≡ share.old.parts }
 {
-    let reply = make_counted(&mut kept.book, event);
+    let reply = make_counted(&mut *kept.book, event);
     if is_accepting(&reply) {
         kept.tally.add(share, 1);
     }
@@ -99,7 +99,7 @@ pub fn apply_and_take<L: Ledger>(
     requires part { 0 < share.old.parts }
     requires worker { worker ≤ WORKERS }
     requires allowed { IsAllowed ending }
-    ensures steps { Follows kept.old.book ending worker result kept.new.book }
+    ensures steps { Follows kept.old.book.value ending worker result kept.new.book.value }
     ensures total { kept.new.tally.total ≡ kept.old.tally.total + counted result }
     ensures amount { share.new.amount ≡ share.old.amount + counted result }
     ensures parts { share.new.parts ≡ share.old.parts }

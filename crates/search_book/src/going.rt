@@ -35,9 +35,9 @@ fn ending_of(id: u32, ending: Ending) -> Event
 fn take_slot<L: Ledger>(kept: &mut Kept<L>, share: &mut Share<L>, worker: u8) -> Grant
     requires part { 0 < share.old.parts }
     requires worker { worker ≤ WORKERS }
-    ensures step { Grants kept.old.book worker result kept.new.book }
-    ensures held { IsInHand kept.new.book result }
-    ensures case { kept.new.book.case ≡ kept.old.book.case }
+    ensures step { Grants kept.old.book.value worker result kept.new.book.value }
+    ensures held { IsInHand kept.new.book.value result }
+    ensures case { kept.new.book.value.case ≡ kept.old.book.value.case }
     ensures total { kept.new.tally.total ≡ kept.old.tally.total + granted result }
     ensures amount { share.new.amount ≡ share.old.amount + granted result }
     ensures parts { share.new.parts ≡ share.old.parts }
@@ -85,10 +85,10 @@ fn pass<L: Ledger>(
     requires part { 0 < share.old.parts }
     requires worker { worker ≤ WORKERS }
     requires allowed { IsAllowed ending }
-    ensures on { IfOk result (λ taken. Passes kept.old.book ending worker rest.now taken kept.new.book) }
-    ensures node { IfOk result (λ taken. IsFirstAt kept.new.book taken rest.now) }
-    ensures off { IfErr result (λ next. IsStop kept.old.book ending worker rest.now next kept.new.book) }
-    ensures case { kept.new.book.case ≡ kept.old.book.case }
+    ensures on { IfOk result (λ taken. Passes kept.old.book.value ending worker rest.now taken kept.new.book.value) }
+    ensures node { IfOk result (λ taken. IsFirstAt kept.new.book.value taken rest.now) }
+    ensures off { IfErr result (λ next. IsStop kept.old.book.value ending worker rest.now next kept.new.book.value) }
+    ensures case { kept.new.book.value.case ≡ kept.old.book.value.case }
     ensures total { kept.new.tally.total ≡ kept.old.tally.total + passed result }
     ensures amount { share.new.amount ≡ share.old.amount + passed result }
     ensures parts { share.new.parts ≡ share.old.parts }
@@ -98,7 +98,7 @@ fn pass<L: Ledger>(
         return Err(Next::Refused(reply));
     }
     let grant = take_slot(kept, share, worker);
-    match on_the_way(&kept.book, grant, rest) {
+    match on_the_way(&*kept.book, grant, rest) {
         Some(id) => Ok(id),
         None => Err(Next::Taken(kept.book.grant_reply(grant))),
     }
@@ -141,17 +141,17 @@ pub fn go_ahead<L: Ledger>(
     requires part { 0 < share.old.parts }
     requires worker { worker ≤ WORKERS }
     requires some { 0 < length stretch.now.nodes.items }
-    ensures steps { GoesAhead worker kept.old.book id stretch.now.nodes.items result.place result kept.new.book }
+    ensures steps { GoesAhead worker kept.old.book.value id stretch.now.nodes.items result.place result kept.new.book.value }
     ensures total { kept.new.tally.total ≡ kept.old.tally.total + gone_count result }
     ensures amount { share.new.amount ≡ share.old.amount + gone_count result }
     ensures parts { share.new.parts ≡ share.old.parts }
 {
-    let may = may_lay(&kept.book, id, stretch);
+    let may = may_lay(&*kept.book, id, stretch);
     let mut held = id;
     let mut place = 0;
     let mut ahead = stretch.nodes.as_slice();
     while let [one, rest @ ..] = ahead {
-        lay(&mut kept.book, held, one, may);
+        lay(&mut *kept.book, held, one, may);
         let ending = ending_of(held, one.ending);
         match pass(kept, share, worker, ending, rest) {
             Ok(taken) => held = taken,

@@ -98,7 +98,7 @@ impl<L: Ledger> SharedBook<L> {
     {
         let mut kept = self.lock_soon(rt);
         let inside = &mut *kept;
-        inside.book.keeps();
+        inside.keeps();
         let reply = apply(inside, share, event);
         if is_accepting(&reply) {
             self.leave(kept);
@@ -125,7 +125,7 @@ impl<L: Ledger> SharedBook<L> {
     {
         let mut kept = self.lock_soon(rt);
         let inside = &mut *kept;
-        inside.book.keeps();
+        inside.keeps();
         let next = apply_and_take(inside, share, worker, ending);
         if let Next::Taken(_) = next {
             self.leave(kept);
@@ -152,7 +152,7 @@ impl<L: Ledger> SharedBook<L> {
     {
         let mut kept = self.lock_soon(rt);
         let inside = &mut *kept;
-        inside.book.keeps();
+        inside.keeps();
         let next = close_and_take(inside, share, worker, closing);
         if let Next::Taken(_) = next {
             self.leave(kept);
@@ -169,7 +169,7 @@ impl<L: Ledger> SharedBook<L> {
     /// Waits for the lock, and appends the book's cuts to the known ones, as `learn_cuts` does.
     pub fn learn_cuts<W: Wait>(&self, rt: &W, known: &mut Vec<ChamberCut>) -> Result<(), NoMemory> {
         let kept = self.lock_soon(rt);
-        learn_cuts(&kept.book, known)
+        learn_cuts(&*kept.book, known)
     }
 
     /// Waits for the lock, and hands nodes that were worked out ahead to the book as `go_ahead` does
@@ -192,7 +192,7 @@ impl<L: Ledger> SharedBook<L> {
     {
         let mut kept = self.lock_soon(rt);
         let inside = &mut *kept;
-        inside.book.keeps();
+        inside.keeps();
         let gone = go_ahead(inside, share, worker, id, stretch);
         if has_accepted(&gone) {
             self.leave(kept);
@@ -213,7 +213,7 @@ impl<L: Ledger> SharedBook<L> {
         let mut kept = self.lock_soon(rt);
         for _ in rt.forever() {
             let inside = &mut *kept;
-            inside.book.keeps();
+            inside.keeps();
             let reply = apply(inside, share, Event::Take(worker));
             if !is_idle(&reply) {
                 if is_accepting(&reply) {

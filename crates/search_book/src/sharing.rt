@@ -30,7 +30,7 @@ fn cut_shares<L: Ledger>(all: &mut Share<L>, workers: u8) -> ShareList<L>
 /// Puts a book under its lock, with a share of one part for each of 1 to `WORKERS` workers and one for the
 /// caller. The sum of their amounts is the length of the history. The blank is that of `L`, with
 /// `workers + 1` parts. Takes no memory.
-pub fn share_book<L: Ledger>(blank: Blank, book: Book, workers: u8) -> (SharedBook<L>, ShareList<L>)
+pub fn share_book<L: Ledger>(blank: Blank, book: Box<Book>, workers: u8) -> (SharedBook<L>, ShareList<L>)
     requires some_workers { 1 ≤ workers }
     requires few_workers { workers ≤ WORKERS }
     requires name { blank.name ≡ L.name }
@@ -39,7 +39,7 @@ pub fn share_book<L: Ledger>(blank: Blank, book: Book, workers: u8) -> (SharedBo
     ensures count { length result.1 ≡ workers + 1 }
     ensures one_part { All (λ s. s.parts ≡ 1) result.1 }
     ensures parts { sum_by (λ s. s.parts) result.1 ≡ workers + 1 }
-    ensures amounts { sum_by (λ s. s.amount) result.1 ≡ length book.history }
+    ensures amounts { sum_by (λ s. s.amount) result.1 ≡ length book.value.history }
 {
     let (mut tally, mut all) = blank.open::<L>();
     tally.add(&mut all, book.history_len());
@@ -61,9 +61,9 @@ pub fn share_book<L: Ledger>(blank: Blank, book: Book, workers: u8) -> (SharedBo
 impl<L: Ledger> SharedBook<L> {
     /// The book, once the shares in the list have all parts of the ledger. Its history is as long as
     /// the sum of their amounts.
-    pub fn into_book(self, shares: ShareList<L>) -> Book
+    pub fn into_book(self, shares: ShareList<L>) -> Box<Book>
         requires { sum_by (λ s. s.parts) shares ≡ L.parts }
-        ensures { length result.history ≡ sum_by (λ s. s.amount) shares }
+        ensures { length result.value.history ≡ sum_by (λ s. s.amount) shares }
     {
         let SharedBook {
             lock,

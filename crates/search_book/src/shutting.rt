@@ -52,6 +52,22 @@ fn close_counted(book: &mut Book, closing: &Closing<'_>) -> Reply
     close_found(book, closing)
 }
 
+// Closes a slot of the book that is kept by what was found, and counts that where it is accepted.
+fn shut<L: Ledger>(kept: &mut Kept<L>, share: &mut Share<L>, closing: &Closing<'_>) -> Reply
+    requires part { 0 < share.old.parts }
+    ensures step { Answers kept.old.book.value (closing_event closing.now) result kept.new.book.value }
+    ensures refused { OnFalse (is_accepting result) (kept.new.book.value ≡ kept.old.book.value) }
+    ensures total { kept.new.tally.total ≡ kept.old.tally.total + accepted result }
+    ensures amount { share.new.amount ≡ share.old.amount + accepted result }
+    ensures parts { share.new.parts ≡ share.old.parts }
+{
+    let reply = close_counted(&mut *kept.book, closing);
+    if is_accepting(&reply) {
+        kept.tally.add(share, 1);
+    }
+    reply
+}
+
 /// Closes a slot as `Book::close_price` or `Book::close_swept` does and, where that is accepted, makes
 /// `Take` of this worker as `apply` does. The total and the amount of the share grow by one for each of
 /// the two that is accepted.
@@ -63,15 +79,14 @@ pub fn close_and_take<L: Ledger>(
 ) -> Next
     requires part { 0 < share.old.parts }
     requires worker { worker ≤ WORKERS }
-    ensures steps { Shuts kept.old.book closing.now worker result kept.new.book }
+    ensures steps { Shuts kept.old.book.value closing.now worker result kept.new.book.value }
     ensures total { kept.new.tally.total ≡ kept.old.tally.total + counted result }
     ensures amount { share.new.amount ≡ share.old.amount + counted result }
     ensures parts { share.new.parts ≡ share.old.parts }
 {
-    let reply = close_counted(&mut kept.book, closing);
+    let reply = shut(kept, share, closing);
     if !is_accepting(&reply) {
         return Next::Refused(reply);
     }
-    kept.tally.add(share, 1);
     Next::Taken(apply(kept, share, Event::Take(worker)))
 }

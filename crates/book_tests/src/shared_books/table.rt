@@ -49,13 +49,13 @@ fn made<L: Ledger, R: Wait + Abort>(
     requires name { blank.name ≡ L.name }
     requires parts { (blank.parts ≡ L.parts) × (blank.parts ≡ 2) }
 {
-    let (shared, mut shares) = share_book::<L>(blank, book, 1);
+    let (shared, mut shares) = share_book::<L>(blank, Box::new(alloc, book)?, 1);
     let Some(Part { mut share, last }) = take_part(&mut shares) else {
         return Err("no share".into());
     };
     expect_same(rt, alloc, &shared, &mut share, twin, asks)?;
     give_back(&mut shares, Part { share, last });
-    Ok(shared.into_book(shares))
+    Ok(Box::into_inner(shared.into_book(shares)))
 }
 
 // Two equal books, of which one is put under the lock: what comes back is that of the methods.

@@ -53,7 +53,7 @@ fn late<L: Ledger, R: Wait>(
 fn wait_of<L: Ledger + Send + Sync, R: Threads + Wait + Sync>(
     rt: &R,
     blank: Blank,
-    book: Book,
+    book: Box<Book>,
     splits: bool,
 ) -> Option<(u64, Option<u32>)>
     requires name { blank.name ≡ L.name }
@@ -76,7 +76,7 @@ fn wait_of<L: Ledger + Send + Sync, R: Threads + Wait + Sync>(
 
 #[test]
 fn who_waits_is_told_of_a_split(rt: HostRuntime) -> Result<(), Fail> {
-    let book = open_turns(rt.alloc(), narrow()?, 128)?;
+    let book = Box::new(rt.alloc(), open_turns(rt.alloc(), narrow()?, 128)?)?;
     let done = wait_of::<Brand, _>(&rt, Blank::new(3), book, true);
     assert!(rt; done == Some((3, Some(1))));
     Ok(())
@@ -84,7 +84,7 @@ fn who_waits_is_told_of_a_split(rt: HostRuntime) -> Result<(), Fail> {
 
 #[test]
 fn who_waits_is_told_of_an_ending(rt: HostRuntime) -> Result<(), Fail> {
-    let book = open_turns(rt.alloc(), narrow()?, 128)?;
+    let book = Box::new(rt.alloc(), open_turns(rt.alloc(), narrow()?, 128)?)?;
     let done = wait_of::<Brand, _>(&rt, Blank::new(3), book, false);
     assert!(rt; done == Some((3, Some(0))));
     Ok(())
