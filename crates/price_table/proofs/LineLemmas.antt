@@ -22,7 +22,8 @@ use Rattle.lock_rules.proofs.CountLemmas.{sum_by-parts}
 use Rattle.lock_rules.proofs.LineLemmas.{sum_by-each}
 use Rattle.lock_rules.proofs.TimetableLemmas.{start_of-lawful, timetable-lawful}
 use Rattle.lock_rules.proofs.TraceLemmas.{Dominates-itself, kept_flow, trace-flow}
-use Rattle.price_rules.specs.Prices.{PriceList, PlainCut, Spares, IsUncut, is_missing, price_at, paid_by, paid_in}
+use Rattle.price_rules.specs.Prices.{PriceList, PlainCut, Spares, IsUncut, is_missing, price_at, paid_by, paid_in, charged_on, charged_by, charged_in}
+use Rattle.price_rules.proofs.ChargeLemmas.{charged-filter}
 use Rattle.price_groups.specs.Worth.{end_after, worth_of, worth_from, IsHorizon}
 
 sum_by-times : (f : ℕ → ℕ) (xs : List ℕ) → sum_by (λ s. 100 * f s) xs ≡ 100 * sum_by f xs
@@ -65,15 +66,26 @@ module _ (I : Instance) (c : ℕ) (cuts : List PlainCut) where
       put way [] rest all make = all
       put way (k ∷ ks) rest all make = All-cons (IsUncut I c cuts) (record { way = way; ships = k ∷ ks }) rest (make (omega arith)) all
 
+-- the trace of a line is charged no more than the line
+charged-trace : (prices : PriceList) (p : ℕ → Bool) (gs : List Group) → charged_in prices (trace_by p gs) ≤ charged_in prices gs
+charged-trace prices p [] = omega arith
+charged-trace prices p (g ∷ gs) = put g.way (filter p g.ships) (trace_by p gs) (charged-filter prices p g.ships) (charged-trace prices p gs)
+  where
+    put : (way : Way) (ks : List ℕ) (rest : List Group) → charged_on prices ks ≤ charged_on prices g.ships → charged_in prices rest ≤ charged_in prices gs
+        → charged_in prices (with_group way ks rest) ≤ charged_in prices (g ∷ gs)
+    put way [] rest here more = omega (arith, more)
+    put way (k ∷ ks) rest here more = omega (arith, here, more)
+
 module _ (I : Instance) (c k : ℕ) (prices : PriceList) where
   -- a line is worth its first group and the rest
   pub worth-next : (stand : Stand) (from : ℕ) (g : Group) (gs : List Group)
       → worth_from I c k prices stand from (g ∷ gs) ≡ (worth_of I c k prices stand from g +ℤ worth_from I c k prices (stand_after g.way) (end_after I c stand from g) gs)
   worth-next stand from g gs =
-      step (sum_by (λ s. end_after I c stand from g - (ship_at I s).arrival) g.ships) (paid_by I k prices g) (flow_of I gs (timetable_from I c (stand_after g.way) (end_after I c stand from g) gs)) (paid_in I k prices gs)
+      step (sum_by (λ s. end_after I c stand from g - (ship_at I s).arrival) g.ships) (charged_by prices g) (paid_by I k prices g)
+      (flow_of I gs (timetable_from I c (stand_after g.way) (end_after I c stand from g) gs)) (charged_in prices gs) (paid_in I k prices gs)
     where
-      step : (a b x y : ℕ) → (pos (100 * (a + x)) -ℤ pos (b + y)) ≡ ((pos (100 * a) -ℤ pos b) +ℤ (pos (100 * x) -ℤ pos y))
-      step a b x y = omega (arith, ints)
+      step : (a d b x e y : ℕ) → (pos (100 * (a + x) + (d + e)) -ℤ pos (b + y)) ≡ ((pos (100 * a + d) -ℤ pos b) +ℤ (pos (100 * x + e) -ℤ pos y))
+      step a d b x e y = omega (arith, ints)
 
   module _ (known : c < length I.chambers) where
     -- each end is later than the minute before
@@ -115,9 +127,11 @@ module _ (I : Instance) (c k : ℕ) (prices : PriceList) where
       pub late-least : (stand : Stand) (from : ℕ) (gs : List Group) → horizon ≤ from → All (λ g. All (λ s. s < length I.ships) g.ships) gs
           → worth_from I c k prices stand from (trace_by kept gs) ≤ℤ worth_from I c k prices stand from gs
       late-least stand from gs past numbers =
-          step (flow_of I (trace_by kept gs) (timetable_from I c stand from (trace_by kept gs))) (paid_in I k prices (trace_by kept gs)) (flow_of I gs (timetable_from I c stand from gs)) (paid_in I k prices gs) (kept_flow I c known kept gs (starts_of (timetable_from I c stand from gs)))
+          step (flow_of I (trace_by kept gs) (timetable_from I c stand from (trace_by kept gs))) (charged_in prices (trace_by kept gs)) (paid_in I k prices (trace_by kept gs))
+          (flow_of I gs (timetable_from I c stand from gs)) (charged_in prices gs) (paid_in I k prices gs) (kept_flow I c known kept gs (starts_of (timetable_from I c stand from gs)))
           (trace-flow I c known kept stand stand from from gs (starts_of (timetable_from I c stand from gs)) (Dominates-itself (chamber_at I c) stand from) (timetable-lawful I c known stand from gs))
           (late-paid stand from gs past numbers)
+          (charged-trace prices kept gs)
         where
-          step : (a b x y f : ℕ) → a ≤ f → y + 100 * f ≤ 100 * x → (pos (100 * a) -ℤ pos b) ≤ℤ (pos (100 * x) -ℤ pos y)
-          step a b x y f h j = omega (arith, ints)
+          step : (a d b x e y f : ℕ) → a ≤ f → y + 100 * f ≤ 100 * x → d ≤ e → (pos (100 * a + d) -ℤ pos b) ≤ℤ (pos (100 * x + e) -ℤ pos y)
+          step a d b x e y f h j l = omega (arith, ints)

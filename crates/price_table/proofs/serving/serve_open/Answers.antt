@@ -23,8 +23,8 @@ returns-clause-worth c =
     let I = c.args.case.now.instance.now in
     let sums = c.requires.is.sums in
     c.ended.ensures.worth
-    ∙ sums-worth I c.args.case.now.index c.args.case.now.depth c.args.case.now.prices.now c.args.ready.now.state.stand c.args.ready.now.state.minute c.args.successor.now.group c.args.case.now.chamber_in _ c.args.successor.now.pays
-    (sym c.ended.ensures.end ∙ returns-clause-end c) (sums.pays ∙ rates-sum (line_asked c.args.case.now) c.args.successor.now.group.ships)
+    ∙ sums-worth I c.args.case.now.index c.args.case.now.depth c.args.case.now.prices.now c.args.ready.now.state.stand c.args.ready.now.state.minute c.args.successor.now.group c.args.case.now.chamber_in _ c.args.successor.now.pays c.args.successor.now.charged
+    (sym c.ended.ensures.end ∙ returns-clause-end c) (sums.pays ∙ rates-sum (line_asked c.args.case.now) c.args.successor.now.group.ships) sums.charged
 
 pub returns-clause-small : goal.returns-clause-small
 returns-clause-small c = omega (arith, c.ended.ensures.end, c.max-from.ensures, c.requires.first, c.requires.ready.small c.args.successor.now.group.way, c.requires.is.sums.short, c.requires.is.sums.soon)
