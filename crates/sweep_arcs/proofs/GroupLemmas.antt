@@ -40,7 +40,7 @@ pub ceilings_next : (prices : PriceList) (spread n price own : ℕ) (old : List 
     → AreCeilings prices spread n old → AreCeilings prices spread (n + 1) (slice_set old n own)
 ceilings_next prices spread n price own old here is fair raised before = record {
   each = λ s less. elim (eqb_tells s n) [
-    | inl y ↦ ap (λ s. price_at (slice_set old n own) s) y.1 ∙ get_or-set_same old n own 0 here ∙ raised ∙ ap (λ p. min 1000000 (p + spread + 1)) (is ∙ ap (price_at prices) (sym y.1))
+    | inl y ↦ ap (λ s. slice_index_or (slice_set old n own) s 0) y.1 ∙ get_or-set_same old n own 0 here ∙ raised ∙ ap (λ p. min 1000000 (p + spread + 1)) (is ∙ ap (price_at prices) (sym y.1))
     | inr m ↦ get_or-set_other old n s own 0 m.1 ∙ before.each s (earlier n s m.1 less)
   ];
   fair = λ s less. elim (eqb_tells s n) [
@@ -111,10 +111,10 @@ joined_next groups n one old new here is joined more = record {
     either true = refl
     either false = refl
 
-pub below-ceilings : (prices : PriceList) (spread : ℕ) (ceilings : List ℕ) → length prices ≤ SHIPS → AreCeilings prices spread SHIPS ceilings → AreBelow prices ceilings
+pub below-ceilings : (prices : PriceList) (spread : ℕ) (ceilings : PriceList) → length prices.ships ≤ SHIPS → AreCeilings prices spread SHIPS ceilings.ships → AreBelow prices ceilings
 below-ceilings prices spread ceilings few are s = elim (leb_tells (suc s) SHIPS) [
   | inl y ↦ omega (arith, are.each s y.1, are.fair s y.1)
-  | inr q ↦ omega (arith, get_or_past prices s 0 (omega (arith, q.1, few)))
+  | inr q ↦ omega (arith, get_or_past prices.ships s 0 (omega (arith, q.1, few)))
 ]
 
 filter-none : (ships : List ℕ) → filter (has_number []) ships ≡ []
@@ -138,8 +138,8 @@ module _ (L : LineAsk) (root : L.depth ≡ 0) (way : Way) where
   }
 
   -- ALL UNCUT GROUPS OF THE WAY ARE GROWN but such ones
-  pub all-grown : (sets : List (List ℕ)) (spread : ℕ) (ceilings : List ℕ) (list : GrownList) → L.chamber < length L.instance.chambers → AreForbidden L.instance L.chamber L.cuts sets
-      → AreCeilings L.prices spread SHIPS ceilings → IsBrief L → list.base ≡ empty → IsGrownList (group_ask L.instance L.chamber L.depth ceilings sets) list → AreWayGroups L way spread list.groups.items
+  pub all-grown : (sets : List (List ℕ)) (spread : ℕ) (ceilings : PriceList) (list : GrownList) → L.chamber < length L.instance.chambers → AreForbidden L.instance L.chamber L.cuts sets
+      → AreCeilings L.prices spread SHIPS ceilings.ships → IsBrief L → list.base ≡ empty → IsGrownList (group_ask L.instance L.chamber L.depth ceilings sets) list → AreWayGroups L way spread list.groups.items
   all-grown sets spread ceilings list known forbids are brief base grown = record { each = λ k d here. own (slice_index_or list.groups.items k d) (grown.each k d here); whole = whole }
     where
       most : (chamber_at L.instance L.chamber).most ≤ MOST

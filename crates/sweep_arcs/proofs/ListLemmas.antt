@@ -17,7 +17,7 @@ use Rattle.lock_model.specs.declared.way.Stand.{Stand}
 use Rattle.lock_model.specs.Fleet.{ship_at}
 use Rattle.lock_rules.specs.Lawful.{duration_of, stand_before, stand_after}
 use Rattle.lock_rules.specs.Timetable.{start_of}
-use Rattle.price_rules.specs.Prices.{price_at}
+use Rattle.price_rules.specs.Prices.{price_at, charged_by}
 use Rattle.sweep_rules.specs.Gain.{IsGainFrom}
 use Rattle.lock_rules.specs.Plan.{times_in}
 use Rattle.lock_rules.specs.Trace.{has_number}
@@ -70,14 +70,15 @@ module _ (L : LineAsk) where
   arc-more minute limit g old new kept (inr beyond) = inr beyond
 
   -- the arc of a group whose worth was counted with the gain from its end
-  pub arc-worth : (minute : ℕ) (g : Group) (from : Stand) (other : Way) (mask start end prices gain first last flow : ℕ) (worth rounded : ℤ)
+  pub arc-worth : (minute : ℕ) (g : Group) (from : Stand) (other : Way) (mask start end prices charged gain first last flow : ℕ) (worth rounded : ℤ)
       → length L.instance.ships ≤ 128 → All (λ s. s < length L.instance.ships) g.ships → IsMask mask g.ships
       → from ≡ stand_before g.way → start ≡ start_of L.instance L.chamber from minute g → end ≡ start + duration_of L.instance L.chamber g.ships
       → first ≡ start → last ≡ end → flow ≡ sum_by (λ s. end - (ship_at L.instance s).arrival) g.ships → prices ≡ sum_by (price_at L.prices) g.ships
+      → charged ≡ charged_by L.prices g
       → stand_before other ≡ stand_after g.way → IsGainFrom L.instance L.chamber L.cuts (λ s. false) L.prices (stand_before other) end gain
-      → (worth +ℤ pos (prices + gain)) ≤ℤ pos (100 * flow) → rounded ≡ worth
+      → (worth +ℤ pos (prices + gain)) ≤ℤ pos (100 * flow + charged) → rounded ≡ worth
       → IsArcWorth L minute g (record { ships = record { bits = mask }; start = first; end = last; flow = flow; prices = prices; worth = rounded })
-  arc-worth minute g from other mask start end prices gain first last flow worth rounded few known is stands starts ends same_start same_end flows pays turns gains least same = record {
+  arc-worth minute g from other mask start end prices charged gain first last flow worth rounded few known is stands starts ends same_start same_end flows pays charges turns gains least same = record {
     is = record {
       ships = λ s here. mask-number mask s g.ships (omega (arith, here, few)) is;
       start = same_start ∙ begin;
@@ -90,7 +91,7 @@ module _ (L : LineAsk) where
       gain = gain;
       is = subst (λ stand. IsGainFrom L.instance L.chamber L.cuts (λ s. false) L.prices stand (end_from L.instance L.chamber minute g) gain) turns
           (subst (λ at. IsGainFrom L.instance L.chamber L.cuts (λ s. false) L.prices (stand_before other) at gain) close gains);
-      least = low rounded worth prices (sum_by (price_at L.prices) g.ships) flow (flow_from L.instance L.chamber minute g) same pays whole least;
+      least = low rounded worth prices (sum_by (price_at L.prices) g.ships) flow (flow_from L.instance L.chamber minute g) (charged_by L.prices g) same pays whole charges least;
     };
   }
     where
@@ -103,8 +104,9 @@ module _ (L : LineAsk) where
       whole : flow ≡ flow_from L.instance L.chamber minute g
       whole = flows ∙ ap (λ end. sum_by (λ s. end - (ship_at L.instance s).arrival) g.ships) close
 
-      low : (rounded worth : ℤ) (prices paid flow all : ℕ) → rounded ≡ worth → prices ≡ paid → flow ≡ all → (worth +ℤ pos (prices + gain)) ≤ℤ pos (100 * flow) → (rounded +ℤ pos (paid + gain)) ≤ℤ pos (100 * all)
-      low rounded worth prices paid flow all same pays whole least = omega (arith, ints, same, pays, whole, least)
+      low : (rounded worth : ℤ) (prices paid flow all own : ℕ) → rounded ≡ worth → prices ≡ paid → flow ≡ all → charged ≡ own → (worth +ℤ pos (prices + gain)) ≤ℤ pos (100 * flow + charged)
+          → (rounded +ℤ pos (paid + gain)) ≤ℤ pos (100 * all + own)
+      low rounded worth prices paid flow all own same pays whole charges least = omega (arith, ints, same, pays, whole, charges, least)
 
   pub put_none : (range : Range) (g : Group) (arcs : List Arc) → length g.ships ≡ 0 → IsPutArc L range g arcs arcs
   put_none range g arcs none = record { kept = λ arc at. at; own = λ some. absurd (omega (arith, some, none)) }

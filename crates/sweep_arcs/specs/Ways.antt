@@ -28,8 +28,8 @@ use Rattle.sweep_arcs.specs.declared.way_arcs.WayArcs.{WayArcs}
 use Rattle.sweep_arcs.specs.declared.way_lane.WayLane.{WayLane}
 
 -- of the first n ships the prices, raised by more than the spread as far as prices may be
-pub record AreCeilings (prices : PriceList) (spread n : ℕ) (ceilings : PriceList) : Type 0 where
-  pub each : (s : ℕ) → s < n → price_at ceilings s ≡ min 1000000 (price_at prices s + spread + 1)
+pub record AreCeilings (prices : PriceList) (spread n : ℕ) (ceilings : List ℕ) : Type 0 where
+  pub each : (s : ℕ) → s < n → slice_index_or ceilings s 0 ≡ min 1000000 (price_at prices s + spread + 1)
   pub fair : (s : ℕ) → s < n → price_at prices s ≤ 1000000
 
 -- none of the first n ships arrives later or is handled longer

@@ -135,7 +135,7 @@ impl<'a> Gains<'a> {
     }
 
     /// The gain where the chamber stands for a way and is free at a minute: no way to go on pays more than
-    /// that beyond 100 times its flow time. Past the horizon it is what it is there.
+    /// that beyond 100 times its flow time and what it is charged. Past the horizon it is what it is there.
     #[inline(always)]
     pub(crate) fn at(&mut self, way: Way, minute: u64) -> Result<u64, PriceError>
         requires { AreGainsKept self.old }

@@ -52,8 +52,8 @@ impl<'a> Lane<'a> {
     }
 
     /// The gain of the chamber behind a label that has these minutes of it: no way to go on by missing ships
-    /// pays more than that beyond 100 times its flow time. Refused are want of memory and more turns than
-    /// the limits allow.
+    /// pays more than that beyond 100 times its flow time and what it is charged. Refused are want of memory
+    /// and more turns than the limits allow.
     #[inline(always)]
     pub fn gain(&mut self, times: &ReadyTimes) -> Result<u64, PriceError>
         requires { IsLane self.old }

@@ -67,7 +67,7 @@ fn raised(prices: &Prices, spread: u64) -> [u32; SHIPS]
 
 // The same as prices.
 fn ceilings_of(prices: &Prices, spread: u64) -> Prices
-    ensures each { AreCeilings prices.now spread SHIPS result }
+    ensures each { AreCeilings prices.now spread SHIPS result.ships }
     ensures below { AreBelow prices.now result }
 {
     let own = prices.as_slice();
