@@ -48,7 +48,7 @@ same-seen : (some all : List ChamberCut) (n : ℕ) → AreFirst some all → n �
 same-seen some all n first few = sym (take-take n (length some) all few) ∙ ap (take n) first.same
 
 -- what is kept of a chamber serves where cuts come behind the others
-right-more : (I : Instance) (k : ℕ) (some all : List ChamberCut) (ceilings : List ℕ) → AreFirst some all → (own : ChamberGroups) → AreGroupsFor I k some ceilings own → AreGroupsFor I k all ceilings own
+right-more : (I : Instance) (k : ℕ) (some all : List ChamberCut) (ceilings : PriceList) → AreFirst some all → (own : ChamberGroups) → AreGroupsFor I k some ceilings own → AreGroupsFor I k all ceilings own
 right-more I k some all ceilings first own is = record {
   seen = omega (arith, is.seen, first.few);
   forbidden = subst (λ ts. AreForbidden I own.chamber (plain_cuts I ts) own.sets.items) (sym (same-seen some all own.seen first is.seen)) is.forbidden;

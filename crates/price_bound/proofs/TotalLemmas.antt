@@ -15,13 +15,13 @@ use Rattle.lock_rules.proofs.ChildLemmas.{times_on-held}
 use Rattle.lock_rules.proofs.SplitLemmas.{times_in-at}
 use Rattle.lock_rules.proofs.NodeLemmas.{group-line}
 use Rattle.lock_rules.proofs.LeafLemmas.{has_number-some}
-use Rattle.price_rules.specs.Prices.{PriceList, PlainCut, IsLoose, Reaches, paid_in, missing_prices}
+use Rattle.price_rules.specs.Prices.{PriceList, PlainCut, IsLoose, Reaches, paid_in, charged_in}
 use Rattle.price_groups.specs.Asks.{line_ask}
 use Rattle.price_groups.specs.Worth.{worth_from, IsKeptGroup}
 use Rattle.price_table.specs.Lines.{IsLeastOn, IsLeastLine}
 use Rattle.price_table.specs.Values.{most_worth}
 use Rattle.price_bound.specs.Asks.{node_ask}
-use Rattle.price_bound.specs.Total.{worths_of, IsLeastSum, AreLeastLines}
+use Rattle.price_bound.specs.Total.{worths_of, IsLeastSum, IsPriceSum, AreLeastLines}
 use Rattle.std.proofs.Math.Seq.{get_or-append_seam}
 use Rattle.std.proofs.lemmas.List.{get_or_append_left, length-append}
 use Rattle.price_terms.specs.declared.loose_line.LooseLine.{LooseLine}
@@ -64,35 +64,41 @@ module _ (I : Instance) (cuts : List PlainCut) (k : ℕ) (lines : List (List Gro
       before : (c n : ℕ) → c < suc n → c ≢ n → c < n
       before c n less m = elim (leb_tells (suc c) n) [ inl y ↦ y.1 | inr q ↦ absurd (m (omega (arith, less, q.1))) ]
 
-  -- the chosen lines' worths are 100 times their flow times minus what they pay
-  worths-flow : (chosen : ℕ → List Group) (n : ℕ) → worths_of I k prices chosen n ≡ (pos (100 * sum_by (λ c. line_flow I c (chosen c)) (numbers_from 0 n)) -ℤ pos (sum_by (λ c. paid_in I k prices (chosen c)) (numbers_from 0 n)))
+  -- the chosen lines' worths are 100 times their flow times and what they are charged, minus what they pay
+  worths-flow : (chosen : ℕ → List Group) (n : ℕ) → worths_of I k prices chosen n
+      ≡ (pos (100 * sum_by (λ c. line_flow I c (chosen c)) (numbers_from 0 n) + sum_by (λ c. charged_in prices (chosen c)) (numbers_from 0 n))
+      -ℤ pos (sum_by (λ c. paid_in I k prices (chosen c)) (numbers_from 0 n)))
   worths-flow chosen zero = refl
   worths-flow chosen (suc n) =
       let flow : ℕ → ℕ = λ c. line_flow I c (chosen c) in
       let paid : ℕ → ℕ = λ c. paid_in I k prices (chosen c) in
+      let charged : ℕ → ℕ = λ c. charged_in prices (chosen c) in
       let one : suc n ≡ n + 1 = omega arith in
       let more : numbers_from 0 (suc n) ≡ numbers_from 0 n ++ n ∷ [] = ap (numbers_from 0) one ∙ numbers_more 0 n ∙ ap (λ m. numbers_from 0 n ++ m ∷ []) (omega arith) in
       let flows : sum_by flow (numbers_from 0 (suc n)) ≡ sum_by flow (numbers_from 0 n) + flow n = ap (sum_by flow) more ∙ sum_by-append flow (numbers_from 0 n) (n ∷ []) ∙ ap (λ x. sum_by flow (numbers_from 0 n) + x) (sum_by-one flow n) in
       let pays : sum_by paid (numbers_from 0 (suc n)) ≡ sum_by paid (numbers_from 0 n) + paid n = ap (sum_by paid) more ∙ sum_by-append paid (numbers_from 0 n) (n ∷ []) ∙ ap (λ x. sum_by paid (numbers_from 0 n) + x) (sum_by-one paid n) in
-      step _ _ _ _ _ _ _ (worths-flow chosen n) flows pays
+      let charges : sum_by charged (numbers_from 0 (suc n)) ≡ sum_by charged (numbers_from 0 n) + charged n = ap (sum_by charged) more ∙ sum_by-append charged (numbers_from 0 n) (n ∷ []) ∙ ap (λ x. sum_by charged (numbers_from 0 n) + x) (sum_by-one charged n) in
+      step _ _ _ _ _ _ _ _ _ _ (worths-flow chosen n) flows charges pays
     where
-      step : (u : ℤ) (f g p q x y : ℕ) → u ≡ (pos (100 * f) -ℤ pos p) → x ≡ f + g → y ≡ p + q → (u +ℤ (pos (100 * g) -ℤ pos q)) ≡ (pos (100 * x) -ℤ pos y)
-      step u f g p q x y e a b = omega (arith, ints)
+      step : (u : ℤ) (f g h j p q x z y : ℕ) → u ≡ (pos (100 * f + h) -ℤ pos p) → x ≡ f + g → z ≡ h + j → y ≡ p + q → (u +ℤ (pos (100 * g + j) -ℤ pos q)) ≡ (pos (100 * x + z) -ℤ pos y)
+      step u f g h j p q x z y e a d b = omega (arith, ints)
 
-  -- THE NODE REACHES THE COST EXACTLY where the least sum, with the prices of the missing ships, is high enough.
-  pub reaches-exact : (v : ℤ) (cost : ℕ) → IsLeastSum (node_ask I cuts k lines prices) (length I.chambers) v → Reaches I cuts k lines prices cost ↔ (pos (100 * cost) <ℤ ((v +ℤ pos (missing_prices I k prices)) +ℤ pos 100))
-  reaches-exact v cost sum = (
-    λ reached. up cost _ _ _ v (reached.high sum.chosen (record { each = λ c known. sum.loose c known })) (sym (worths-flow sum.chosen (length I.chambers)) ∙ sum.worth),
+  -- THE NODE REACHES THE COST EXACTLY where the least sum, with the prices of the missing ships less those of the triples, is high enough.
+  pub reaches-exact : (v : ℤ) (cost : ℕ) → IsPriceSum (node_ask I cuts k lines prices) v → Reaches I cuts k lines prices cost ↔ (pos (100 * cost) <ℤ (v +ℤ pos 100))
+  reaches-exact v cost sum = let least = sum.is_least in (
+    λ reached. up cost _ _ _ _ _ sum.least v (reached.high least.chosen (record { each = λ c known. least.loose c known })) (sym (worths-flow least.chosen (length I.chambers)) ∙ least.worth) sum.value,
     λ high. record {
-      high = λ chosen loose. down cost _ _ _ v high (subst (λ w. v ≤ℤ w) (worths-flow chosen (length I.chambers)) (sum.below chosen (λ c known. loose.each c known)));
+      high = λ chosen loose. down cost _ _ _ _ _ sum.least v high (subst (λ w. sum.least ≤ℤ w) (worths-flow chosen (length I.chambers)) (least.below chosen (λ c known. loose.each c known))) sum.value;
     },
   )
     where
-      up : (cost flow paid missing : ℕ) (v : ℤ) → 100 * cost + paid < 100 * flow + missing + 100 → (pos (100 * flow) -ℤ pos paid) ≡ v → pos (100 * cost) <ℤ ((v +ℤ pos missing) +ℤ pos 100)
-      up cost flow paid missing v h e = omega (arith, ints)
+      up : (cost flow charged paid triples missing : ℕ) (u v : ℤ) → 100 * cost + paid + triples < 100 * flow + charged + missing + 100
+          → (pos (100 * flow + charged) -ℤ pos paid) ≡ u → (v +ℤ pos triples) ≡ (u +ℤ pos missing) → pos (100 * cost) <ℤ (v +ℤ pos 100)
+      up cost flow charged paid triples missing u v h e is = omega (arith, ints)
 
-      down : (cost flow paid missing : ℕ) (v : ℤ) → pos (100 * cost) <ℤ ((v +ℤ pos missing) +ℤ pos 100) → v ≤ℤ (pos (100 * flow) -ℤ pos paid) → 100 * cost + paid < 100 * flow + missing + 100
-      down cost flow paid missing v h e = omega (arith, ints)
+      down : (cost flow charged paid triples missing : ℕ) (u v : ℤ) → pos (100 * cost) <ℤ (v +ℤ pos 100)
+          → u ≤ℤ (pos (100 * flow + charged) -ℤ pos paid) → (v +ℤ pos triples) ≡ (u +ℤ pos missing) → 100 * cost + paid + triples < 100 * flow + charged + missing + 100
+      down cost flow charged paid triples missing u v h e is = omega (arith, ints)
 
 -- sums are far from the ends of their type
 pub sum-rounded : (v : ℤ) → neg_ℤ (pos 4000000000000000) ≤ℤ v → v ≤ℤ pos 400000000000000 → to_z w64 (of_z w64 v) ≡ v

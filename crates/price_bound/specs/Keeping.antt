@@ -55,7 +55,7 @@ AreKeptUnder None kept = kept ≡ []
 AreKeptUnder (Some terms) kept = All (IsKeptUnder terms) kept
 
 -- the terms are there, and name this instance, depth, prices and cuts
-abbrev pub AreUnder : Instance → ℕ → List ℕ → List ChamberCut → Option Terms → Type 0
+abbrev pub AreUnder : Instance → ℕ → PriceList → List ChamberCut → Option Terms → Type 0
 AreUnder I k prices cuts None = ⊥
 AreUnder I k prices cuts (Some terms) = AreTerms I k prices cuts terms
 

@@ -2,6 +2,7 @@
 use Rattle.std.specs.Prelude.{ℕ, ◌≡◌, ◌<◌, ◌≤◌, ◌⊎◌, Some, None, List, [], ◌∷◌, ◌++◌, length, take, All, Contains, bit_and, slice_index_or}
 use Rattle.std.specs.declared.option.Option.{Option}
 use Rattle.lock_model.specs.declared.instance.Instance.{Instance}
+use Rattle.price_rules.specs.Prices.{PriceList}
 use Rattle.price_terms.specs.declared.cut.ChamberCut.{ChamberCut}
 use Rattle.price_bound.specs.declared.terms.Terms.{Terms}
 use Rattle.price_groups.specs.declared.grown_lists.GrownGroup.{GrownGroup}
@@ -41,7 +42,7 @@ pub record AreSparedLists (masks : List ℕ) (lists : List GrownList) (n : ℕ) 
 
 -- What is kept of a chamber at nodes of depth k: the sets that the first of the cuts forbid it, and what has grown
 -- at the ceilings without these.
-pub record AreGroupsFor (I : Instance) (k : ℕ) (cuts : List ChamberCut) (ceilings : List ℕ) (own : ChamberGroups) : Type 0 where
+pub record AreGroupsFor (I : Instance) (k : ℕ) (cuts : List ChamberCut) (ceilings : PriceList) (own : ChamberGroups) : Type 0 where
   pub seen : own.seen ≤ length cuts
   pub forbidden : AreForbidden I own.chamber (plain_cuts I (take own.seen cuts)) own.sets.items
   pub completable : AreAllCompletable I k own.sets.items (length I.ships) own.completable.items
@@ -49,7 +50,7 @@ pub record AreGroupsFor (I : Instance) (k : ℕ) (cuts : List ChamberCut) (ceili
 
 -- what serves stays so, whatever the ceilings
 abbrev pub StayGroupsFor : Instance → ℕ → List ChamberCut → ChamberGroups → ChamberGroups → Type 0
-StayGroupsFor I k cuts old new = (ceilings : List ℕ) → AreGroupsFor I k cuts ceilings old → AreGroupsFor I k cuts ceilings new
+StayGroupsFor I k cuts old new = (ceilings : PriceList) → AreGroupsFor I k cuts ceilings old → AreGroupsFor I k cuts ceilings new
 
 -- all that is kept of chambers
 abbrev pub AreAllGroupsFor : Instance → ℕ → List ChamberCut → KeptGroups → Type 0

@@ -5,7 +5,7 @@ use Rattle.lock_model.specs.Fleet.{chamber_at}
 use Rattle.lock_model.specs.declared.instance.Instance.{Instance}
 use Rattle.lock_model.specs.declared.group.Group.{Group}
 use Rattle.lock_rules.specs.Node.{line_at}
-use Rattle.price_rules.specs.Prices.{missing_prices, triple_prices}
+use Rattle.price_rules.specs.Prices.{PriceList, missing_prices, triple_prices}
 use Rattle.price_terms.specs.declared.loose_line.LooseLine.{LooseLine}
 use Rattle.price_terms.specs.declared.loose_line.LooseLines.{LooseLines}
 use Rattle.price_groups.specs.Asks.{IsLooseIn}

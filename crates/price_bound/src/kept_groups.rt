@@ -1,6 +1,7 @@
 //! What is worked out of chambers whatever the prices are, kept for later calls.
 ghost use Rattle.std.specs.Prelude.{ℕ, ◌≡◌, ◌<◌, ◌≤◌, List, [], ◌++◌, length, slice_index_or, IsTrue, IfOk, IfSome, OnOk};
 ghost use Rattle.lock_model.specs.declared.instance.Instance.{Instance as PlainInstance};
+ghost use Rattle.price_rules.specs.Prices.{PriceList};
 ghost use Rattle.price_terms.specs.declared.cut.ChamberCut.{ChamberCut};
 ghost use Rattle.price_bound.specs.declared.kept_groups.ChamberGroups.{ChamberGroups as Plain};
 ghost use Rattle.price_groups.specs.Asked.{line_asked};
@@ -114,7 +115,7 @@ fn append_sets(sets: &mut Vec<Ships>, more: &[Ships]) -> Result<(), PriceError>
 // Nothing yet of the chamber of a case.
 fn fresh(alloc: Global, case: &LineCase) -> Result<ChamberGroups, PriceError>
     ensures chamber { IfOk result (λ own. own.chamber ≡ case.now.index) }
-    ensures right { (ceilings : List ℕ) → IfOk result (AreGroupsFor case.now.instance.now case.now.depth case.now.cuts.now ceilings) }
+    ensures right { (ceilings : PriceList) → IfOk result (AreGroupsFor case.now.instance.now case.now.depth case.now.cuts.now ceilings) }
 {
     Ok(ChamberGroups {
         chamber: case.index,
@@ -299,7 +300,7 @@ impl KeptGroups {
     {
         self.rise_to(case.prices);
         match self.least_by(alloc, case, limits) {
-            Err(PriceError::TooMany) if self.ceilings != *case.prices => {
+            Err(PriceError::TooMany) if self.ceilings.as_slice() != case.prices.as_slice() => {
                 self.go_to(case.prices.copy());
                 self.least_by(alloc, case, limits)
             }

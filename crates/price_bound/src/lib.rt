@@ -3,7 +3,7 @@
 //! `reaches` says whether a node reaches a cost by prices and cuts, exactly; `price_sum` is the sum by
 //! which it does, and `greatest_cost` the greatest that it reaches; `show` makes a `Shown`, the value that
 //! carries the fact, and `shown_below` one of a node from that of the root; `least_lines` gives for each
-//! chamber a loose line with the least of `100 * flow - paid`.
+//! chamber a loose line with the least of `100 * flow + charged - paid`.
 //!
 //! What is worked out is kept for later calls in `KeptLines`, which helps speed alone; nothing else that
 //! a call is given changes. Groups are grown at ceilings of the prices, so that they serve until a price

@@ -134,9 +134,8 @@ pub fn price_sum(
     }
 }
 
-/// For each chamber a loose line of the least `100 * flow - paid`, and the sum of these and of the
-/// prices of the missing ships, in hundredths of a minute, which is that of `price_sum`; None where
-/// some chamber has no loose line. A missing ship may stand in several of the groups, or in none.
+/// For each chamber a loose line of the least `100 * flow + charged - paid`, and the sum of `price_sum`,
+/// in hundredths of a minute; None where some chamber has no loose line. A missing ship may stand in several of the groups, or in none.
 /// Refuses as `reaches` does.
 pub fn least_lines(
     kept: &mut KeptLines,

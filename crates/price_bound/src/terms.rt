@@ -41,6 +41,13 @@ impl Terms {
         })
     }
 
+    // Whether their prices are these.
+    fn have_prices(&self, prices: &Prices) -> bool
+        ensures { IsTrue result ↔ self.now.prices ≡ prices.now }
+    {
+        self.prices == *prices
+    }
+
     #[tactic(auto, using(price_terms::proofs::CutLemmas::same_row))]
     // Whether their cuts are these.
     fn have_cuts(&self, cuts: &[ChamberCut]) -> bool
@@ -54,7 +61,7 @@ impl Terms {
         ensures { OnTrue result (AreTerms case.now.instance.now case.now.depth case.now.prices.now case.now.cuts.now self.now) }
     {
         self.depth == case.depth
-            && self.prices == *case.prices
+            && self.have_prices(case.prices)
             && self.have_cuts(case.cuts)
             && self.instance.equals(case.instance)
     }

@@ -46,13 +46,13 @@ fn check_all(
     let mut kept = KeptLines::new(alloc);
     for &(path, ships, price, sum, greatest) in rows {
         let ships = Prices::new(ships).ok_or("no prices")?;
-        let triple = Triple {
+        let triple = [Triple {
             first: 0,
             second: 1,
             third: 2,
             price,
-        };
-        let triples = if price > 0 { &[triple][..] } else { &[] };
+        }];
+        let triples = if price > 0 { &triple[..] } else { &[] };
         let prices = ships.with_triples(triples).ok_or("no triples")?;
         check(
             rt,

@@ -1,4 +1,4 @@
-use Rattle.std.proofs.Common.{◌*◌, ◌+ℤ◌, ◌<ℤ◌, ◌≤ℤ◌, pos, neg_ℤ, IfSome, refl, sym, ◌∙◌, subst}
+use Rattle.std.proofs.Common.{◌*◌, ◌+ℤ◌, ◌<ℤ◌, ◌≤ℤ◌, pos, neg_ℤ, IfSome, refl, sym, subst}
 use Rattle.price_rules.proofs.ReachLemmas.{reached-without}
 use Rattle.price_terms.specs.Cuts.{plain_cuts}
 use Rattle.price_bound.specs.Asked.{node_asked}
@@ -25,8 +25,8 @@ returns-in-Some c =
     let sum = subst (IsNodeSum (node_asked asked)) c.in-Some.is told.value in
     let low = subst (λ o. IfSome o (λ v. neg_ℤ (pos 4000000000000000) ≤ℤ v)) c.in-Some.is told.low in
     let high = subst (λ o. IfSome o (λ v. v ≤ℤ pos 400000000000000)) c.in-Some.is told.high in
-    let exact = reaches-exact I cuts node.depth node.lines asked.prices.now sum.least c.args.cost sum.is_least in
-    let same = sum-rounded c.in-Some.sum low high ∙ sum.value in (
+    let exact = reaches-exact I cuts node.depth node.lines asked.prices.now c.in-Some.sum c.args.cost sum in
+    let same = sum-rounded c.in-Some.sum low high in (
       λ h. exact.1 (subst (λ v. pos (100 * c.args.cost) <ℤ (v +ℤ pos 100)) same (c.is_high.ensures.0 h)),
       λ h. c.is_high.ensures.1 (subst (λ v. pos (100 * c.args.cost) <ℤ (v +ℤ pos 100)) (sym same) (exact.0 h)),
     )
