@@ -27,8 +27,8 @@ import sys
 import time
 from collections import namedtuple
 
-from dossier_text import (BOUND, CLOSED_FORMS, FEW_SHIPS, FIRST_CUT, FIRST_PROBE, OPEN_FORMS, OPEN_LEAF, SPLIT, THROUGHPUT,
-                          Answer, OpenPriced, Priced, Swept, read_dossier)
+from dossier_text import (BOUND, CLOSED_FORMS, FEW_SHIPS, FIRST_CUT, FIRST_PROBE, OPEN_FORMS, OPEN_LEAF, OPEN_PRICE, PRICE,
+                          SPLIT, SWEEP, THROUGHPUT, Answer, read_dossier)
 from price_bound import PriceBound, hits_in
 from refutations import clash, deck_of, fits_alone, legal_placement, refutation_holds
 from sweeps import Sweep
@@ -172,7 +172,7 @@ def check_tree(instance, cost, cuts, prices, marks):
     bounds, low, priced = Bounds(instance), cost, PriceBound(instance, cuts, prices)
     throughput, first_cut = bounds.throughput(), FIRST_CUT[len(instance.ships) > FEW_SHIPS]
     due = [Node(0, ((),) * len(instance.chambers))]  # the nodes whose trees are still to come, the next one last
-    for p, mark in enumerate(told(marks, "mark")):
+    for p, (mark, number) in enumerate(told(marks, "mark")):
         place = f"tree {p}"
         demand(due, place, "TreeLong")
         node = due.pop()
@@ -181,16 +181,16 @@ def check_tree(instance, cost, cuts, prices, marks):
             due += reversed(bounds.children(node))
         elif mark == OPEN_LEAF:
             low = min(low, bounds.bound(node))
-        elif isinstance(mark, OpenPriced):
-            demand(mark.number < len(prices), place, "SweptWrong")
-            low = min(low, max(bounds.bound(node), priced.greatest(node, mark.number, cost)))
+        elif mark == OPEN_PRICE:
+            demand(number < len(prices), place, "SweptWrong")
+            low = min(low, max(bounds.bound(node), priced.greatest(node, number, cost)))
         elif mark == BOUND:
             demand(bounds.bound(node) >= cost, place, "BoundLow")
-        elif isinstance(mark, Priced):
-            demand(mark.number < len(prices) and priced.reaches(node, mark.number, cost), place, "PriceLow")
-        elif isinstance(mark, Swept):
-            demand(node.depth == 0 and mark.number < len(prices)
-                   and Sweep(instance, cuts, prices[mark.number], cost).is_swept(told), place, "SweptWrong")
+        elif mark == PRICE:
+            demand(number < len(prices) and priced.reaches(node, number, cost), place, "PriceLow")
+        elif mark == SWEEP:
+            demand(node.depth == 0 and number < len(prices)
+                   and Sweep(instance, cuts, prices[number], cost).is_swept(told), place, "SweptWrong")
         elif mark == THROUGHPUT:
             demand(throughput >= cost, place, "ThroughputLow")
         elif mark < first_cut:
@@ -210,8 +210,8 @@ def check(instance, certificate):
     demand(legal_plan(instance, certificate.plan), "plan", "PlanIllegal")
     demand(plan_cost(instance, certificate.plan) == certificate.cost, "cost", "CostWrong")
     check_cuts(instance, certificate.cuts)
-    for number, prices in enumerate(certificate.prices):
-        demand(len(prices) == len(instance.ships), f"prices {number}", "PricesShape")
+    for number, (ships, triples) in enumerate(certificate.prices):
+        demand(max((it[2] for it in triples), default=0) < len(ships) == len(instance.ships), f"prices {number}", "PricesShape")
     return check_tree(instance, certificate.cost, certificate.cuts, certificate.prices, certificate.tree)
 
 

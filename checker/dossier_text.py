@@ -154,27 +154,24 @@ def read_json(data):
 # The form of a dossier (dossier.md, The object; What has the form) ---------------------------------------------------
 
 SPLIT, BOUND, THROUGHPUT, OPEN_LEAF, PRICE, SWEEP, OPEN_PRICE, FIRST_PROBE = 0, 1, 2, 3, 4, 5, 6, 10
-# marks of two numbers, of which the second says which prices
-Priced, Swept, OpenPriced = (namedtuple(name, "number") for name in ("Priced", "Swept", "OpenPriced"))
-THIRD, FOURTH = {PRICE: Priced}, {PRICE: Priced, SWEEP: Swept}
-OPEN_FOURTH = {**FOURTH, OPEN_PRICE: OpenPriced}
-# The line that begins a dossier's second part says what the object may hold. Its plan has at most so many lockages, and
-# a list of prices so many numbers, as the greater of the few ships and those of the instance.
-Form = namedtuple("Form", "reasons pairs open_leaves ships", defaults=[{}, False, FEW_SHIPS])
-KEYS = ("cost", "cuts", "plan", "tree")
-PRICED_KEYS = KEYS + ("prices",)
-CLOSED_FORMS = {(b"certificate",): Form(5), (b"certificate", b"2"): Form(6),
-                (b"certificate", b"3"): Form(7, THIRD), (b"certificate", b"4"): Form(7, FOURTH)}
-OPEN_FORMS = {(b"certificate", b"open"): Form(6, {}, True),
-              (b"certificate", b"open", b"3"): Form(7, THIRD, True),
-              (b"certificate", b"open", b"4"): Form(7, OPEN_FOURTH, True)}
+CLOSED, OPEN = (SPLIT, BOUND, THROUGHPUT), (SPLIT, BOUND, THROUGHPUT, OPEN_LEAF)
+# The line that begins a dossier's second part says what the object may hold: kinds of reasons, marks of one number, and of
+# two, of which the second says which prices, and prices of triples. Its plan has at most so many lockages, and a list of
+# prices so many numbers, as the greater of the few ships and those of the instance.
+Form = namedtuple("Form", "reasons marks pairs triples ships", defaults=[CLOSED, (), False, FEW_SHIPS])
+CLOSED_FORMS = {(b"certificate",): Form(5), (b"certificate", b"2"): Form(6), (b"certificate", b"3"): Form(7, CLOSED, (PRICE,)),
+                (b"certificate", b"4"): Form(7, CLOSED, (PRICE, SWEEP), True)}
+OPEN_FORMS = {(b"certificate", b"open"): Form(6, OPEN), (b"certificate", b"open", b"3"): Form(7, OPEN, (PRICE,)),
+              (b"certificate", b"open", b"4"): Form(7, OPEN, (PRICE, SWEEP, OPEN_PRICE), True)}
 
-Certificate = namedtuple("Certificate", PRICED_KEYS, defaults=[()])
+Certificate = namedtuple("Certificate", "cost cuts plan tree prices", defaults=[()])
+Mark = namedtuple("Mark", "kind prices")  # prices: their number, of a mark of two numbers
+Prices = namedtuple("Prices", "ships triples")  # a triple: its three ships and its price
 Cut = namedtuple("Cut", "chamber ships why")  # why: the number of its kind, and the rest
 Lockage = namedtuple("Lockage", "chamber ships spots start way")
 Spot = namedtuple("Spot", "x y rank moor")
 
-BYTE, WORD, LONG = 2**8, 2**32, 2**64
+BYTE, WORD, LONG, PRICES = 2**8, 2**32, 2**64, 1_000_001
 AREA, ROW, COLUMN, CASE_TREE, SPOT_TREE, CLASH, BERTH_TREE = range(7)
 NAMED_SHIPS = {AREA: (0, 0), ROW: (1, 8), COLUMN: (1, 8), CLASH: (2, 2)}
 LAST_PROBE, FIRST_CUT = (33, 105), (100, 1_000)  # of other instances, and of large ones
@@ -230,27 +227,28 @@ def read_plan(value, form):
 
 def read_tree(value, form):
     marks, numbers, is_large = [], iter(items(value)), form.ships > FEW_SHIPS
-    for mark in numbers:
-        if type(mark) is int and mark in form.pairs:
-            mark = form.pairs[mark](whole(next(numbers, None), 2**63))
-        else:
-            whole(mark, FIRST_CUT[is_large] + 2**63)
-            require(mark in (SPLIT, BOUND, THROUGHPUT) or mark == OPEN_LEAF and form.open_leaves
-                    or FIRST_PROBE <= mark <= LAST_PROBE[is_large] or mark >= FIRST_CUT[is_large])
-        marks.append(mark)
+    for kind in numbers:
+        whole(kind, FIRST_CUT[is_large] + 2**63)
+        require(kind in form.marks + form.pairs or FIRST_PROBE <= kind <= LAST_PROBE[is_large] or kind >= FIRST_CUT[is_large])
+        marks.append(Mark(kind, whole(next(numbers, None), 2**63) if kind in form.pairs else None))
     return marks
 
 
 def read_prices(value, form):
-    return [[whole(price, 1_000_001) for price in items(prices, 1, form.ships)] for prices in items(value)]
+    """Prices are a list where no triple has one, and else an object, where the form has triples."""
+    has_triples = form.triples and type(value) is dict
+    ships, triples = fields(value, Prices._fields) if has_triples else (value, [])
+    triples = [(*rising(items(it, 4, 4)[:3]), whole(it[3], PRICES)) for it in items(triples, has_triples, 255)]
+    require(all(price > 0 for *_, price in triples) and all(a[:3] < b[:3] for a, b in zip(triples, triples[1:])))
+    return Prices([whole(price, PRICES) for price in items(ships, 1, form.ships)], triples)
 
 
 READERS = {"cost": lambda value, form: whole(value, LONG), "cuts": read_cuts, "plan": read_plan, "tree": read_tree,
-           "prices": read_prices}
+           "prices": lambda value, form: [read_prices(prices, form) for prices in items(value)]}
 
 
 def read_object(value, form):
-    part, keys = 1, PRICED_KEYS if form.pairs else KEYS
+    part, keys = 1, Certificate._fields[:5 if form.pairs else 4]
     try:
         contents, read = fields(value, keys), {}
         for part, (key, content) in enumerate(zip(keys, contents), 2):

@@ -1,15 +1,16 @@
 """What a node reaches by prices (rules.md, Lower bounds by prices; dossier.md, What a node reaches, worked out).
 
 A loose line of a chamber is a list of groups that no cut hits, whose groups are those of the node's line joined by missing
-ships, and groups of missing ships alone between them; a missing ship may stand in several groups, or in none. The node
-reaches a cost where, for each choice of a loose line for each chamber, 100 times the flow time less what the missing ships
-pay, and the price of each missing ship once, come to more than 100 times the cost, less 100.
+ships, and groups of missing ships alone between them; a missing ship may stand in several groups, or in none. A group is
+charged the price of each triple of which it has at least two ships. The node reaches a cost where, for each choice of a loose
+line for each chamber, 100 times the flow time less what the missing ships pay, what the groups are charged, and the price of
+each missing ship once, less that of each triple once, come to more than 100 times the cost, less 100.
 
 What gains nothing is left out. Without a missing ship, or without a lockage of missing ships alone, no other lockage ends
 later: its own is shorter and waits for fewer, and an empty turn in the place of a whole lockage lasts no longer than that.
 So a ship gains nothing in a lockage where 100 times its flow time is at least its price, and a lockage of missing ships
-alone where it adds 0 or more. And of two lines that have come as far, one that is free later and worth no less gains
-nothing. So only minutes are looked at from which a line goes on that does gain."""
+alone where it adds 0 or more: fewer ships are charged no more. And of two lines that have come as far, one that is free later
+and worth no less gains nothing. So only minutes are looked at from which a line goes on that does gain."""
 
 import functools
 import heapq
@@ -26,13 +27,19 @@ def hits_in(instance, cut, c):
             and chamber.length <= room.length and chamber.width <= room.width)
 
 
-# What counts of a group: its latest arrival, its handling, its ships' number, and what is paid with 100 times its arrivals.
+# What counts of a group: its latest arrival, its handling, its ships' number, and what is paid with 100 times its arrivals,
+# less what it is charged.
 Choice = namedtuple("Choice", "latest handling count paid")
 
 
+def charged(prices, ships):
+    """The prices of the triples of which at least two ships are among these."""
+    return sum(price for *three, price in prices.triples if len(ships.intersection(three)) > 1)
+
+
 class Table:
-    """The least of 100 * flow - paid over the loose lines of one chamber, or None where it has none. `cuts` are of each ship
-    the sets of ships that it is in and that share no lockage of the chamber."""
+    """The least of 100 * flow + charged - paid over the loose lines of one chamber, or None where it has none. `cuts` are of
+    each ship the sets of ships that it is in and that share no lockage of the chamber."""
 
     def __init__(self, instance, c, cuts, line, missing, prices):
         self.ships, self.chamber, self.cuts, self.line = instance.ships, instance.chambers[c], cuts, line
@@ -54,10 +61,10 @@ class Table:
         while due:
             group, at, gains_before, choice = due.pop()
             if choice.count > 0:
-                yield group, choice
+                yield group, choice._replace(paid=choice.paid - charged(self.prices, group))
             for place in range(at, len(missing) if choice.count < self.chamber.most else 0):
                 s = missing[place]
-                pays, more = 100 * self.ships[s].arrival + self.prices[s], group | {s}
+                pays, more = 100 * self.ships[s].arrival + self.prices.ships[s], group | {s}
                 longer = Choice(max(choice.latest, self.ships[s].arrival), choice.handling + self.ships[s].handling,
                                 choice.count + 1, choice.paid + pays)
                 before, end = min(gains_before, pays), max(longer.latest, minute) + self.chamber.passage + longer.handling
@@ -124,7 +131,8 @@ class PriceBound:
     def greatest(self, node, number, most):
         """The greatest cost up to `most` that the node reaches, which is below 0 where it reaches none."""
         least = [self.least(c, line, node.depth, number) for c, line in enumerate(node.lines)]
-        missing = sum(self.prices[number][s] for s in self.order[node.depth:])
+        ships, triples = self.prices[number]
+        missing = sum(ships[s] for s in self.order[node.depth:]) - sum(price for *_, price in triples)
         return most if None in least else min(most, (sum(least) + missing + 99) // 100)
 
     def reaches(self, node, number, cost):

@@ -3,14 +3,15 @@
 Beginnings of uncut plans are made lockage by lockage, in the order of start and chamber. Of a beginning its label keeps the
 flow time, and then by chamber and way the least start of a next lockage. Of two labels of the same ships one that is nowhere
 greater does for both. And a label is dropped where no plan below the cost begins so, since 100 times its flow time, what the
-chambers' ways to go on are worth at least, and the prices of the missing ships come to too much. How much they may come to
-more, its room, is greatest of the first label. Sets of ships are numbers whose bits are the ships."""
+chambers' ways to go on are worth at least, and the prices of the missing ships, less those of the triples of which at least
+two ships are missing, come to too much. How much they may come to more, its room, is greatest of the first label. Sets of
+ships are numbers whose bits are the ships."""
 
 from functools import lru_cache
 from itertools import takewhile
 from math import inf
 
-from price_bound import PriceBound, Table
+from price_bound import PriceBound, Table, charged
 from times import first_free, ready
 
 
@@ -40,9 +41,9 @@ class Sweep:
         return self.known[c, starts]
 
     def left(self, served):
-        """The prices of the missing ships, added, and their first arrivals up and down."""
-        ships = [s for s in range(len(self.ships)) if not served >> s & 1]
-        return sum(self.prices[s] for s in ships), [
+        """The prices of the missing ships, less those of their triples, and their first arrivals up and down."""
+        ships = frozenset(s for s in range(len(self.ships)) if not served >> s & 1)
+        return sum(self.prices.ships[s] for s in ships) - charged(self.prices, ships), [
             min((self.ships[s].arrival for s in ships if self.ships[s].way == way), default=inf) for way in (0, 1)]
 
     def room(self, served, flow, starts):
@@ -58,7 +59,7 @@ class Sweep:
             length = chamber.passage + choice.handling
             start = first_free(chamber, max(choice.latest, minute), length)
             flow, behind = sum(start + length - self.ships[s].arrival for s in group), self.starts(c, 1 - way, start + length)
-            worth = 100 * flow - sum(self.prices[s] for s in group) + self.least(c, behind)
+            worth = 100 * choice.count * (start + length) - choice.paid + self.least(c, behind)
             found += [(worth, sum(1 << s for s in group), flow, start, behind)] * (worth <= self.greatest)
         return sorted(found)
 

@@ -2,8 +2,9 @@
 
 Without dossiers the program writes some: of lots of several sizes, as they are, with all ships in a queue, and with
 cargo classes and closures, and of lots of more than 24 ships; open ones too where it knows `solve --keep`, which are compared with its `lower`. To them
-come trees.dossier, whose cuts have a case tree and a spot tree, and prices.dossier, whose cut has a berth tree and whose
-root is closed by prices, and open_by_prices.dossier, which has an open leaf by prices. Each is compared as it is and in damaged copies.
+come trees.dossier, whose cuts have a case tree and a spot tree, prices.dossier, whose cut has a berth tree and whose
+root is closed by prices, triples.dossier, where it takes the price of a triple, and open_by_prices.dossier, which has an
+open leaf by prices. Each is compared as it is and in damaged copies.
 Prints the first differences and `N equal, M different`; the status is 0 where something was compared and nothing
 differs."""
 
@@ -42,7 +43,7 @@ def with_classes(words, number):
 
 def written(glock):
     """The dossiers that stand here and those that the program writes, each with its name."""
-    for name in ("trees.dossier", "prices.dossier", "open_by_prices.dossier"):
+    for name in ("trees.dossier", "prices.dossier", "triples.dossier", "open_by_prices.dossier"):
         yield name, pathlib.Path(__file__).with_name(name).read_bytes()
     count = 0
     for ships in (2, 4, 6, 8, 10, 12, 26, 32):

@@ -157,18 +157,42 @@ def a_price(data, dice):
     head, value = parts(data)
     if not value.get("prices"):
         return a_value(data, dice)
-    prices, kind = dice.pick(value["prices"]), dice.below(7)
+    own, kind = dice.pick(value["prices"]), dice.below(7)
+    prices = own["ships"] if isinstance(own, dict) else own
     at = dice.below(len(prices))
     if kind == 0:
         del prices[at]
     elif kind == 1:
         prices.insert(at, dice.below(9000))
     elif kind == 2:
-        value["prices"].insert(0, list(prices))
+        value["prices"].insert(0, list(prices) if dice.below(2) else own)
     elif kind == 3:
         value["prices"].pop()
     else:
         prices[at] = max(0, prices[at] + dice.pick([-1000, -100, -1, 1, 100, 2000, 1_000_000]))
+    return joined(head, value)
+
+
+def a_triple(data, dice):
+    """Prices get a triple, lose one, or one of its numbers is another."""
+    head, value = parts(data)
+    if not value.get("prices"):
+        return a_value(data, dice)
+    at = dice.below(len(value["prices"]))
+    if isinstance(value["prices"][at], list):
+        value["prices"][at] = {"ships": value["prices"][at], "triples": []}
+    triples, kind = value["prices"][at]["triples"], dice.below(6)
+    if kind < 3 or not triples:
+        first = dice.below(5)
+        triples.append([first, first + 1 + dice.below(2), first + 3 + dice.below(2), dice.pick([1, 100, 1000, 10_000, 1_000_000])])
+    elif kind == 3:
+        del triples[dice.below(len(triples))]
+    else:
+        triple = dice.pick(triples)
+        triple[dice.below(len(triple))] = dice.pick([0, 1, 2, 3, 5, 23, 95, 255, 256, 400, 1_000_001])
+    if dice.below(4):
+        triples.sort()
+        head = re.sub(rb"(certificate(?: open)?) 3\n$", rb"\1 4\n", head)
     return joined(head, value)
 
 
@@ -228,7 +252,7 @@ def a_lockage(data, dice):
 
 
 DAMAGES = [a_byte, cut_short, lines, a_number, a_string, a_key_twice, a_word, a_value, a_value, a_mark, a_mark, a_price,
-           a_price, a_cost, a_refutation, a_refutation, a_lockage, a_lockage]
+           a_price, a_triple, a_cost, a_refutation, a_refutation, a_lockage, a_lockage]
 
 
 def damaged(data, dice):

@@ -72,6 +72,10 @@ SWEPT = SECOND.replace("certificate", "certificate 4").replace('"tree":[0,0,100,
 # the same instance, its root left open by two lists of prices: by the first it reaches 119, and by the second 71
 SHOWN = SWEPT.replace("certificate 4", "certificate open 4").replace("[[8500,8500]]", "[[8400,8400],[3600,3600]]").replace("[5,0]", "[6,0]")
 
+# three ships of which two at most share a lockage: by these prices the root reaches 165, and with the triple 170
+TRIPLE = pathlib.Path(__file__).with_name("triples.dossier").read_text()
+OPEN_TRIPLE = TRIPLE.replace("certificate 4", "certificate open 4").replace("[4,0]", "[6,0]")
+
 # one up and one down, which never share a lockage
 BOTH_WAYS = SECOND.replace("s2 up", "s2 down").replace('50,"way":0', '35,"way":1').replace("120", "105").replace(
     "[0,0,100,1,1]", "[0,0,1,1]")
@@ -307,6 +311,30 @@ CHECKED = [
     (SWEPT, '[{"chamber":0,"ships":[0,1],"why":[1,0,1]}]', "[]", SWEPT_WRONG), (SWEPT, "20 5 4 30", "20 5 1 30", ACCEPTED),
     (SWEPT, "certificate 4", "certificate 3", PART(5)), (SWEPT, "certificate 4", "certificate 2", PART(1)),
     (SWEPT.replace('"start":50', '"start":51'), '"cost":120', '"cost":121', SWEPT_WRONG),
+    # prices of triples: what a root reaches by them, their form, and their ships
+    (TRIPLE, "", "", "accepted cost 170"),
+    *((TRIPLE, '[[0,1,2,500]]', triples, line) for triples, line in (
+        ("[[0,1,2,401]]", "accepted cost 170"), ("[[0,1,2,400]]", PRICE_LOW), ("[[0,1,2,1000000]]", PRICE_LOW),
+        ("[[0,1,3,500]]", "rejected prices 0 reason 12 PricesShape"), ("[[0,1,255,500]]", "rejected prices 0 reason 12 PricesShape"),
+        ("[[0,1,2,1],[0,1,95,1]]", "rejected prices 0 reason 12 PricesShape"),
+        *((triples, PART(6)) for triples in (
+            "[]", "[[]]", "[0,1,2,500]", "[[0,1,2]]", "[[0,1,2,500,1]]", "[[0,1,2,0]]", "[[0,1,2,1000001]]", "[[0,1,2,-1]]", "[[0,1,2,1.0]]",
+            "[[0,1,1,500]]", "[[0,0,2,500]]", "[[1,0,2,500]]", "[[0,2,1,500]]", "[[0,1,256,500]]", "[[0,1,2,250],[0,1,2,250]]",
+            "[[0,1,95,1],[0,1,2,1]]", "[[0,1,2,1],0]", "{}", "500", "null")))),
+    *((TRIPLE, "[[0,1,2,500]]", str([[0, 1, third, 1] for third in range(2, many + 2)]), line) for many, line in (
+        (254, "rejected prices 0 reason 12 PricesShape"), (255, PART(6)))),
+    *((TRIPLE, '"triples":[[0,1,2,500]]', triples, line) for triples, line in (
+        ('"triples":[[0,1,2,500]],"more":[]', PART(6)), ('"triple":[[0,1,2,500]]', PART(6)), ('"triples":[],"triples":[[0,1,2,500]]', "accepted cost 170"))),
+    *((TRIPLE, "[10500,10500,10500]", ships, line) for ships, line in (
+        ("[10500,10500]", "rejected prices 0 reason 12 PricesShape"), ("[]", PART(6)), ("{}", PART(6)), ("[9500,9500,9500]", "accepted cost 170"))),
+    *((TRIPLE, '{"ships":[10500,10500,10500],"triples":[[0,1,2,500]]}', prices, line) for prices, line in (
+        ("[10500,10500,10500]", PRICE_LOW), ("[9500,9500,9500]", "accepted cost 170"), ('{"ships":[9500,9500,9500]}', PART(6)),
+        ('{"triples":[[0,1,2,500]]}', PART(6)), ("{}", PART(6)))),
+    *((TRIPLE, old, new, line) for old, new, line in (
+        ('"prices":[', '"prices":[[0,0,0],', PRICE_LOW), ('"tree":[4,0]', '"tree":[5,0]', "accepted cost 170"),
+        ('"tree":[4,0]', '"tree":[0,0,1,4,0,4,0,1,4,0]', "rejected tree 2 reason 8 BoundLow"),
+        ("certificate 4", "certificate 3", PART(6)), ("certificate 4", "certificate 2", PART(1)), ("certificate 4", "certificate open 4", NO_MARK))),
+    (TRIPLE.replace('"prices":[', '"prices":[[0,0,0],'), "[4,0]", "[4,1]", "accepted cost 170"),
     # worked refutations
     *((asking(deck, why), "", "", "rejected tree 0 reason 5 TreeShort" if holds else UNPROVED) for deck, why, holds in REFUTED),
     # an instance text of any length; a word after the line's words; a line of words that aren't UTF-8
@@ -355,6 +383,13 @@ OPENED = [
     *((SHOWN, "certificate open 4", heading, line) for heading, line in (
         ("certificate open 3", PART(5)), ("certificate open", PART(1)), ("certificate 4", NO_MARK), ("certificate 3", NO_MARK))),
     (OPEN, "[0,0,3,1,1]", "[6,0]", PART(5)),
+    *((OPEN_TRIPLE, old, new, line) for old, new, line in (
+        ("", "", "lower 170 cost 170"), ("500]]", "400]]", "lower 169 cost 170"), ("500]]", "1]]", "lower 166 cost 170"),
+        ('{"ships":[10500,10500,10500],"triples":[[0,1,2,500]]}', "[10500,10500,10500]", "lower 165 cost 170"),
+        ("certificate open 4", "certificate open 3", PART(5)), ("[6,0]", "[4,0]", "lower 170 cost 170"))),
+    # the triple is charged where both others stand in the node
+    *((OPEN_TRIPLE.replace("[10500,10500,10500]", "[0,0,9000]"), "[6,0]", tree, line) for tree, line in (
+        ("[0,0,4,0,3,3]", "lower 155 cost 170"), ("[0,0,6,0,3,3]", "lower 155 cost 170"), ("[0,4,0]", "rejected tree 1 reason 13 PriceLow"))),
     *((LARGE.replace("certificate 3", "certificate open 4").replace('"prices":[]', f'"prices":[{[price] * 25}]'), ROOT, f'"tree":{tree}', line)
       for price, tree, line in ((3500, "[6,0]", "lower 875 cost 875"), (0, "[6,0]", "lower 875 cost 875"), (3500, "[6,1]", SWEPT_WRONG))),
     # faults, and lenient reading

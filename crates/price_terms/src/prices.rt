@@ -1,5 +1,5 @@
 //! Prices of the ships of an instance, and of triples of them.
-ghost use Rattle.std.specs.Prelude.{◌≡◌, ◌<◌, ◌≤◌, ◌×◌, ◌↔◌, [], length, map, min, All, IsSome, IfSome, IsTrue};
+ghost use Rattle.std.specs.Prelude.{◌≡◌, ◌<◌, ◌≤◌, ◌↔◌, [], length, map, min, All, IsSome, IfSome, IsTrue};
 ghost use Rattle.price_rules.specs.Prices.{price_at};
 ghost use Rattle.price_rules.specs.Triples.{AreTriples};
 

@@ -1,6 +1,5 @@
 //! Whether triples may stand in a list of prices.
 ghost use Rattle.std.specs.Prelude.{◌≡◌, ◌<◌, ◌↔◌, All, IsTrue};
-ghost use Rattle.price_rules.specs.declared.triple.Triple.{third};
 ghost use Rattle.price_rules.specs.Triples.{IsFairTriple, AreRisingTriples, AreTriples, triple_key};
 
 use price_rules::{TRIPLES, Triple};
