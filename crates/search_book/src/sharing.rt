@@ -30,7 +30,11 @@ fn cut_shares<L: Ledger>(all: &mut Share<L>, workers: u8) -> ShareList<L>
 /// Puts a book under its lock, with a share of one part for each of 1 to `WORKERS` workers and one for the
 /// caller. The sum of their amounts is the length of the history. The blank is that of `L`, with
 /// `workers + 1` parts. Takes no memory.
-pub fn share_book<L: Ledger>(blank: Blank, book: Box<Book>, workers: u8) -> (SharedBook<L>, ShareList<L>)
+pub fn share_book<L: Ledger>(
+    blank: Blank,
+    book: Box<Book>,
+    workers: u8,
+) -> (SharedBook<L>, ShareList<L>)
     requires some_workers { 1 ≤ workers }
     requires few_workers { workers ≤ WORKERS }
     requires name { blank.name ≡ L.name }
