@@ -9,7 +9,9 @@ ghost use Rattle.sweep_labels.specs.declared.label.KeptLabel.{KeptLabel as AnyLa
 ghost use Rattle.sweep.specs.Bounds.{cuts_of, AreLanes, AreArcsAsked, IsOrigin};
 ghost use Rattle.sweep.specs.Going.{IsSound, IsFurther, IsMetBy, IsBegun, IsArcLed, AreArcsLed, IsWayLed, AreLed};
 
-use crate::origin::{Missing, Origin, gains_of, is_above, missing_of, missing_triples, room_of, spread_of};
+use crate::origin::{
+    Missing, Origin, gains_of, is_above, missing_of, missing_triples, room_of, spread_of,
+};
 use crate::sums::less;
 use crate::sweep_case::SweepCase;
 use lock_model::Way;
