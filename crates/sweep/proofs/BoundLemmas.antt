@@ -5,11 +5,16 @@ use Rattle.std.proofs.lemmas.Bool.Decides.{eqb_tells}
 use Rattle.std.proofs.lemmas.List.{length-set, get_or-set_same, get_or-set_other}
 use Rattle.std.proofs.lemmas.List.Elements.{filter-append}
 use Rattle.std.proofs.lemmas.List.Sums.{sum_by-append}
+use Rattle.lock_model.specs.declared.instance.Instance.{Instance}
 use Rattle.lock_rules.specs.Arrival.{numbers_from}
+use Rattle.lock_rules.specs.Trace.{has_number}
+use Rattle.lock_rules.proofs.LeafLemmas.{has_number-some}
 use Rattle.lock_rules.proofs.LineLemmas.{numbers_more}
+use Rattle.lock_rules.proofs.SplitLemmas.{has_number-none}
 use Rattle.price_groups.specs.Asks.{LineAsk, line_ask}
 use Rattle.sweep_rules.specs.Label.{Label}
-use Rattle.sweep_rules.specs.Gain.{IsGain}
+use Rattle.sweep_rules.specs.Gain.{IsGain, ships_missing}
+use Rattle.sweep_rules.proofs.MissingLemmas.{missing-one, missing-none, missing-past}
 use Rattle.sweep_rules.proofs.OverLemmas.{sum-but_one}
 use Rattle.sweep_labels.specs.declared.label.Label.{Label as CodeLabel}
 use Rattle.sweep_labels.specs.declared.ready_times.ReadyTimes.{ReadyTimes}
@@ -53,6 +58,18 @@ module _ (f : ℕ → ℕ) (p : ℕ → Bool) (n : ℕ) where
     where
       none : sum_by f [] ≡ 0
       none = refl
+
+-- a ship of the instance is missing where it isn't served, and no other number is
+module _ (I : Instance) (served : ℕ → Bool) (s : ℕ) where
+  pub missing_told : s < length I.ships → not (served s) ≡ has_number (ships_missing I served) s
+  missing_told known = by (served s) refl
+    where
+      by : (b : Bool) → served s ≡ b → not b ≡ has_number (ships_missing I served) s
+      by true is = sym (has_number-none (ships_missing I served) s (missing-none I served s is))
+      by false out = sym (has_number-some (ships_missing I served) s (omega (arith, missing-one I served s known out)))
+
+  pub missing_untold : length I.ships ≤ s → false ≡ has_number (ships_missing I served) s
+  missing_untold past = sym (has_number-none (ships_missing I served) s (missing-past I served s past))
 
 -- the gains of no chambers, and of one more
 pub gains_none : (case : SweepCase) (label : Label) (gains : List ℕ) → AreGainsTo case label 0 gains
@@ -103,10 +120,11 @@ lane_arcs case lanes c old asked arcs are known here has =
 
 -- the room that the goal leaves
 pub room_wide : (case : SweepCase) (from : Origin) (c goal sum beside low high : ℕ) (room : ℤ) → c < length case.instance.now.chambers
-    → sum ≡ sum_by (gain_in from.gains) (numbers_from 0 (length case.instance.now.chambers)) → beside ≡ sum - gain_in from.gains c → low ≡ 100 * goal + beside
-    → high ≡ 100 * from.label.flow + 100 + from.missing → room ≡ pos low -ℤ pos high → IsRoom case from c goal room
+    → sum ≡ sum_by (gain_in from.gains) (numbers_from 0 (length case.instance.now.chambers)) → beside ≡ sum - gain_in from.gains c → low ≡ 100 * goal + beside + from.missing.triples
+    → high ≡ 100 * from.label.flow + 100 + from.missing.ships → room ≡ pos low -ℤ pos high → IsRoom case from c goal room
 room_wide case from c goal sum beside low high room known all rest is_low is_high is = record {
-  wide = wide (sum_by (gain_in from.gains) (numbers_from 0 (length case.instance.now.chambers))) (sum_by (gains_with (gain_in from.gains) c 0) (numbers_from 0 (length case.instance.now.chambers))) (gain_in from.gains c) from.label.flow from.missing parts all rest is_low is_high is;
+  wide = wide (sum_by (gain_in from.gains) (numbers_from 0 (length case.instance.now.chambers))) (sum_by (gains_with (gain_in from.gains) c 0) (numbers_from 0 (length case.instance.now.chambers))) (gain_in from.gains c) from.label.flow
+      from.missing.ships from.missing.triples parts all rest is_low is_high is;
 }
   where
     parts : sum_by (gain_in from.gains) (numbers_from 0 (length case.instance.now.chambers)) ≡ sum_by (gains_with (gain_in from.gains) c 0) (numbers_from 0 (length case.instance.now.chambers)) + gain_in from.gains c
@@ -115,6 +133,6 @@ room_wide case from c goal sum beside low high room known all rest is_low is_hig
         (sym (ap (λ n. n + gain_in from.gains c) (own-gain (gain_in from.gains) c 0 c refl) ∙ zero-plus (gain_in from.gains c)))
         (λ d other. sym (other-gain (gain_in from.gains) c 0 d other))
 
-    wide : (total others own flow missing : ℕ) → total ≡ others + own → sum ≡ total → beside ≡ sum - own → low ≡ 100 * goal + beside → high ≡ 100 * flow + 100 + missing → room ≡ pos low -ℤ pos high
-        → pos (100 * goal + others) ≤ℤ (room +ℤ pos (100 * flow + missing + 100))
-    wide total others own flow missing parts all rest is_low is_high is = omega (arith, ints, parts, all, rest, is_low, is_high, is)
+    wide : (total others own flow ships triples : ℕ) → total ≡ others + own → sum ≡ total → beside ≡ sum - own → low ≡ 100 * goal + beside + triples → high ≡ 100 * flow + 100 + ships → room ≡ pos low -ℤ pos high
+        → pos (100 * goal + others + triples) ≤ℤ (room +ℤ pos (100 * flow + ships + 100))
+    wide total others own flow ships triples parts all rest is_low is_high is = omega (arith, ints, parts, all, rest, is_low, is_high, is)

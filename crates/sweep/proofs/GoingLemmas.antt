@@ -1,5 +1,5 @@
 -- A label goes on: each group by which it may leads to a label that is met.
-use Rattle.std.proofs.Common.{◌≡◌, ℕ, ℤ, pos, ◌+ℤ◌, ◌≤ℤ◌, ◌+◌, ◌*◌, ◌<◌, ◌≤◌, false, inl, inr, None, List, length, sum_by, refl, sym, ap, ◌∙◌, subst, arith, slice_index_or}
+use Rattle.std.proofs.Common.{◌≡◌, ℕ, ℤ, pos, ◌+ℤ◌, ◌≤ℤ◌, ◌+◌, ◌*◌, ◌<◌, false, inl, inr, None, List, length, sum_by, refl, sym, ap, ◌∙◌, subst, arith, slice_index_or}
 use Rattle.std.proofs.lemmas.List.{get_or_append_left}
 use Rattle.lock_model.specs.declared.group.Group.{Group}
 use Rattle.lock_model.specs.declared.way.Way.{Way}
@@ -7,7 +7,7 @@ use Rattle.lock_rules.specs.Arrival.{numbers_from}
 use Rattle.sweep_rules.specs.Uncut.{IsSwept}
 use Rattle.sweep_rules.specs.Label.{Label, CanGoOn, IsGoneOn, gone_on}
 use Rattle.sweep_rules.specs.Completion.{EndsBelow}
-use Rattle.sweep_rules.specs.Gain.{IsGain, prices_missing}
+use Rattle.sweep_rules.specs.Gain.{IsGain, prices_missing, triples_missing}
 use Rattle.sweep_rules.specs.Treated.{IsTreated, label_at}
 use Rattle.sweep_rules.proofs.GainLemmas.{above-none, missing-paid}
 use Rattle.sweep_rules.proofs.GoingLemmas.{gone_on-is}
@@ -25,9 +25,10 @@ use Rattle.sweep_labels.specs.Arcs.{IsArcBy, AreArcs, IsBeyond, IsLowWorth, gain
 use Rattle.sweep_labels.proofs.ArcLemmas.{own-gain, other-gain, arc-beyond}
 use Rattle.sweep_labels.proofs.SweepingLemmas.{label-at, closed-swept}
 use Rattle.sweep.specs.declared.sweep_case.SweepCase.{SweepCase}
+use Rattle.sweep.specs.declared.origin.Missing.{Missing}
 use Rattle.sweep.specs.declared.origin.Origin.{Origin}
 use Rattle.sweep.specs.declared.sweeper.Sweeper.{Sweeper}
-use Rattle.sweep.specs.Bounds.{cuts_of, gain_in, AreGains, IsBoundAbove, IsOrigin, IsRoom}
+use Rattle.sweep.specs.Bounds.{cuts_of, gain_in, AreGains, IsBoundAbove, IsMissing, IsOrigin, IsRoom}
 use Rattle.sweep.specs.Going.{IsGrown, IsFurther, IsMetBy, IsBegun, IsLedOn, IsArcOn, IsArcLed, AreArcsLed, IsWayLed, AreLed}
 use Rattle.sweep.proofs.GrownLemmas.{met_on, led_on}
 
@@ -40,21 +41,21 @@ module _ (case : SweepCase) where
       record { way = sym on.same; ships = own.ships; start = own.start; end = own.end; flow = own.flow }
 
   -- no label has a completion below the goal whose bound is above it
-  pub bound_none : (label : CodeLabel) (missing : ℕ) (gains : List ℕ) (goal : ℕ) → missing ≡ prices_missing case.instance.now case.prices.now (label_of label).served → AreGains case (label_of label) gains
+  pub bound_none : (label : CodeLabel) (missing : Missing) (gains : List ℕ) (goal : ℕ) → IsMissing case (label_of label).served missing → AreGains case (label_of label) gains
       → IsBoundAbove case label missing gains goal → EndsBelow case.instance.now (cuts_of case) goal (label_of label) → ⊥
   bound_none label missing gains goal is are above =
-      above-none case.instance.now (cuts_of case) (label_of label) case.prices.now (gain_in gains) are.each goal (record { high = omega (arith, above.high, is) })
+      above-none case.instance.now (cuts_of case) (label_of label) case.prices.now (gain_in gains) are.each goal (record { high = omega (arith, above.high, is.ships, is.triples) })
 
   -- a step to a label that is dropped by its bound,
-  pub arc_dropped : (made : Made) (from : Origin) (step : Step) (next : CodeLabel) (missing : ℕ) (gains : List ℕ) → IsOrigin case from
+  pub arc_dropped : (made : Made) (from : Origin) (step : Step) (next : CodeLabel) (missing : Missing) (gains : List ℕ) → IsOrigin case from
       → ((g : Group) → IsStepBy case.instance.now (label_of from.label) g step → IsGoneOn case.instance.now (cuts_of case) (label_of from.label) step.chamber g (label_of next))
-      → missing + step.arc.prices ≡ from.missing → AreGains case (label_of next) gains → IsBoundAbove case next missing gains made.goal
+      → missing.ships + step.arc.prices ≡ from.missing.ships → missing.triples ≡ triples_missing case.instance.now case.prices.now (label_of next).served → AreGains case (label_of next) gains → IsBoundAbove case next missing gains made.goal
       → IsArcLed case made from.label step.chamber step.way step.arc
-  arc_dropped made from step next missing gains origin gone paid are above = record {
+  arc_dropped made from step next missing gains origin gone paid triples are above = record {
     each = λ g on.
         let goes = gone g (step_by from.label step g on) in
         let whole = missing-paid case.instance.now (cuts_of case) (label_of from.label) (label_of next) step.chamber g on.can goes case.prices.now in
-        let is : missing ≡ prices_missing case.instance.now case.prices.now (label_of next).served = omega (arith, whole, paid, origin.missing, on.is.pays) in
+        let is : IsMissing case (label_of next).served missing = record { ships = omega (arith, whole, paid, origin.missing.ships, on.is.pays); triples = triples } in
         record {
           next = label_of next;
           gone = goes;
@@ -85,6 +86,7 @@ module _ (case : SweepCase) where
           let label = label_of from.label in
           let next = gone_on case.instance.now label c g in
           let goes = gone_on-is case.instance.now (cuts_of case) label c g in
+          let beside = sum_by (gains_with (gain_in from.gains) c 0) (numbers_from 0 (length case.instance.now.chambers)) in
           let low : IsLowWorth case.instance.now (cuts_of case) case.prices.now c (label.ready c g.way) g beyond.worth =
           subst (λ way. IsLowWorth case.instance.now (cuts_of case) case.prices.now c (label.ready c way) g beyond.worth) (sym same) beyond.low in
           record {
@@ -94,7 +96,8 @@ module _ (case : SweepCase) where
                 (arc-beyond case.instance.now (cuts_of case) label next c g can goes case.prices.now (gains_with (gain_in from.gains) c 0)
                 (λ d known other. subst (IsGain case.instance.now d (cuts_of case) label case.prices.now) (sym (other-gain (gain_in from.gains) c 0 d other)) (origin.gains.each d known))
                 (own-gain (gain_in from.gains) c 0 c refl) old.goal room beyond.worth
-                (subst (λ missing. pos (100 * old.goal + sum_by (gains_with (gain_in from.gains) c 0) (numbers_from 0 (length case.instance.now.chambers))) ≤ℤ (room +ℤ pos (100 * from.label.flow + missing + 100))) origin.missing is.wide)
+                (subst (λ triples. pos (100 * old.goal + beside + triples) ≤ℤ (room +ℤ pos (100 * from.label.flow + prices_missing case.instance.now case.prices.now label.served + 100))) origin.missing.triples
+                (subst (λ ships. pos (100 * old.goal + beside + from.missing.triples) ≤ℤ (room +ℤ pos (100 * from.label.flow + ships + 100))) origin.missing.ships is.wide))
                 beyond.more low);
           }
 

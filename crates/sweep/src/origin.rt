@@ -98,35 +98,52 @@ pub(crate) fn missing_prices(case: &SweepCase, served: &ShipSet) -> Result<u64, 
 }
 
 // Whether a ship of the instance isn't served.
+#[tactic(auto, using(crate::proofs::BoundLemmas::missing_told, crate::proofs::BoundLemmas::missing_untold))]
+#[inline(always)]
 fn misses(case: &SweepCase, served: &ShipSet, ship: u8) -> bool
     ensures { result ≡ has_number (ships_missing case.now.instance.now (is_in served.now.bits)) ship }
 {
-    (ship as usize) < case.instance.ships.as_slice().len() && !served.has(ship)
+    if (ship as usize) < case.instance.ships.as_slice().len() {
+        !served.has(ship)
+    } else {
+        false
+    }
 }
 
-// The price of a triple of which at least two ships aren't served.
-fn open_price(case: &SweepCase, served: &ShipSet, triple: &Triple) -> u32
-    ensures value { result ≡ (if has_triple (ships_missing case.now.instance.now (is_in served.now.bits)) triple.now then triple.now.price else 0) }
-    ensures small { result ≤ triple.now.price }
+// Whether at least two ships of a triple aren't served.
+#[inline(always)]
+fn misses_two(case: &SweepCase, served: &ShipSet, triple: &Triple) -> bool
+    ensures { result ≡ has_triple (ships_missing case.now.instance.now (is_in served.now.bits)) triple.now }
 {
     let second = misses(case, served, triple.second);
     let third = misses(case, served, triple.third);
-    let open = if misses(case, served, triple.first) {
+    if misses(case, served, triple.first) {
         second || third
     } else {
         second && third
-    };
-    if open { triple.price } else { 0 }
+    }
+}
+
+// The price of a triple where at least two of its ships aren't served, else 0.
+#[inline(always)]
+fn price_if_missing(case: &SweepCase, served: &ShipSet, triple: &Triple) -> u32
+    ensures value { result ≡ (if has_triple (ships_missing case.now.instance.now (is_in served.now.bits)) triple.now then triple.now.price else 0) }
+    ensures small { result ≤ triple.now.price }
+{
+    if misses_two(case, served, triple) {
+        triple.price
+    } else {
+        0
+    }
 }
 
 /// The prices of the triples of which at least two ships aren't served, added: ways to go on may have these.
 pub(crate) fn missing_triples(case: &SweepCase, served: &ShipSet) -> u64
-    ensures value { result ≡ triples_missing case.now.instance.now case.now.prices.now (is_in served.now.bits) }
-    ensures small { result ≤ 255000000 }
+    ensures { result ≡ triples_missing case.now.instance.now case.now.prices.now (is_in served.now.bits) }
 {
     let mut sum = 0;
     for triple in case.prices.triples() {
-        sum += open_price(case, served, triple) as u64;
+        sum += price_if_missing(case, served, triple) as u64;
     }
     sum
 }

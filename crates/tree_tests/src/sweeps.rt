@@ -1,10 +1,11 @@
 //! Worked rows of sweeps: the least cost of uncut plans is swept, and so is whatever is less.
 use lock_model::{Chamber, Chambers, Closure, Closures, Instance, Ship, ShipList, Way};
+use price_rules::Triple;
 use price_terms::{ChamberCut, Prices};
 use std::alloc::Global;
 use std::process::Abort;
 use std::test::Fail;
-use sweep::{SweepAsked, SweepEnd, SweepLimits, sweep};
+use sweep::{SweepAsked, SweepEnd, SweepLimits, SweepOutcome, sweep};
 use worked_locks::{chamber, one_chamber, pair, ship, two_ships};
 
 // Enough for all rows.
@@ -13,6 +14,14 @@ const ENOUGH: SweepLimits = SweepLimits {
     groups: 100,
     turns: 1_000_000,
 };
+
+// The cost of an uncut plan that a sweep has found; None where the goal is swept.
+fn cost_of(outcome: &SweepOutcome) -> Option<u64> {
+    match &outcome.end {
+        SweepEnd::Swept(_) => None,
+        SweepEnd::Cheaper(plan) => Some(plan.cost),
+    }
+}
 
 // The cost of an uncut plan that costs less than a goal; None where the goal is swept.
 fn cheaper(
@@ -29,10 +38,7 @@ fn cheaper(
         goal,
     };
     let outcome = sweep(alloc, &asked, ENOUGH).map_err(|_| "refused")?;
-    match outcome.end {
-        SweepEnd::Swept(_) => Ok(None),
-        SweepEnd::Cheaper(plan) => Ok(Some(plan.cost)),
-    }
+    Ok(cost_of(&outcome))
 }
 
 // Holds the least cost of uncut plans against sweeps.
@@ -143,4 +149,84 @@ fn ships_of_both_ways_take_turns(rt: HostRuntime) -> Result<(), Fail> {
 fn nothing_is_served_while_a_chamber_is_closed(rt: HostRuntime) -> Result<(), Fail> {
     // both wait for minute 50, and end at 85 and 120
     check(&rt, rt.alloc(), closed(), &[], 175)
+}
+
+// Three equal ships before a chamber that takes any two of them, and not all three.
+fn three_in_pairs() -> Option<Instance> {
+    let mut only = chamber(b'a', 240);
+    only.most = 2;
+    let mut chambers = Chambers::new();
+    chambers.push(only);
+    let mut ships = ShipList::new();
+    ships.push(ship(b's', Way::Up, 0));
+    ships.push(ship(b't', Way::Up, 0));
+    ships.push(ship(b'u', Way::Up, 0));
+    Instance::new(chambers, ships)
+}
+
+// These prices, and one of the triple of the first three ships; none where it is 0.
+fn with_triple(prices: &[u32], price: u32) -> Option<Prices> {
+    let own = Prices::new(prices)?;
+    if price == 0 {
+        return Some(own);
+    }
+    let triple = Triple {
+        first: 0,
+        second: 1,
+        third: 2,
+        price,
+    };
+    own.with_triples(&[triple])
+}
+
+// What a sweep of three ships in pairs finds by prices, and how many labels it makes.
+fn by_prices(
+    alloc: Global,
+    prices: &[u32],
+    triple: u32,
+    goal: u64,
+) -> Result<(Option<u64>, u64), Fail> {
+    let instance = three_in_pairs().ok_or("no instance")?;
+    let prices = with_triple(prices, triple).ok_or("no prices")?;
+    let asked = SweepAsked {
+        instance: &instance,
+        cuts: &[],
+        prices: &prices,
+        goal,
+    };
+    let outcome = sweep(alloc, &asked, ENOUGH).map_err(|_| "refused")?;
+    Ok((cost_of(&outcome), outcome.labels))
+}
+
+#[test]
+fn a_triple_drops_the_first_label(rt: HostRuntime) -> Result<(), Fail> {
+    // Two ships end at minute 40 and the third at 90: 170. Without the triple two pairs pay for one ship too
+    // much, and the bound of the first label is 130; charged for the triple twice they make it 170.
+    let prices = [14_000; 3];
+    for goal in [130, 131, 170, 171] {
+        let (found, labels) = by_prices(rt.alloc(), &prices, 0, goal)?;
+        assert!(rt; found == if goal > 170 { Some(170) } else { None });
+        assert!(rt; (labels == 1) == (goal <= 130));
+        let (found, labels) = by_prices(rt.alloc(), &prices, 4_000, goal)?;
+        assert!(rt; found == if goal > 170 { Some(170) } else { None });
+        assert!(rt; (labels == 1) == (goal <= 170));
+    }
+    Ok(())
+}
+
+#[test]
+fn a_triple_at_the_greatest_price_hides_no_plan(rt: HostRuntime) -> Result<(), Fail> {
+    for price in [0, 3_500, 14_000, 1_000_000] {
+        for triple in [1, 4_000, 1_000_000] {
+            for goal in [1, 169, 170] {
+                let (found, _) = by_prices(rt.alloc(), &[price; 3], triple, goal)?;
+                assert!(rt; found.is_none());
+            }
+            for goal in [171, 172, 1_000] {
+                let (found, _) = by_prices(rt.alloc(), &[price; 3], triple, goal)?;
+                assert!(rt; found == Some(170));
+            }
+        }
+    }
+    Ok(())
 }

@@ -1,4 +1,4 @@
-use Rattle.std.proofs.Common.{SFits, w64, sym, subst, arith, rules}
+use Rattle.std.proofs.Common.{SFits, w64, sym, subst, rules}
 use Rattle.std.proofs.lemmas.Int.{to_z-of_z}
 use Rattle.sweep.specs.Bounds.{IsRoom}
 use Rattle.sweep.proofs.BoundLemmas.{room_wide}
@@ -10,4 +10,4 @@ returns c =
     let fits : SFits w64 room = search rules in
     subst (IsRoom c.args.case.now c.args.from.now c.args.chamber c.args.goal) (sym (to_z-of_z w64 room fits))
     (room_wide c.args.case.now c.args.from.now c.args.chamber c.args.goal c.in_ok-sum_of.field-0 c.saturating_sub-beside.result c.in_ok-low.low c.in_ok-high.high room c.requires
-    c.in_ok-sum_of.ensures (search rules) (omega (arith, c.in_ok-low.ensures, c.in_ok-hundredths.ensures)) c.in_ok-high.ensures c.in_ok-room.ensures)
+    c.in_ok-sum_of.ensures (search rules) c.in_ok-low.ensures c.in_ok-high.ensures c.in_ok-room.ensures)

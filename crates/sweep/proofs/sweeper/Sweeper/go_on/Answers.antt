@@ -1,4 +1,4 @@
-use Rattle.std.proofs.Common.{◌≡◌, true, IsTrue, refl, sym, subst, rules}
+use Rattle.std.proofs.Common.{◌≡◌, IsTrue, refl, sym, subst, rules}
 use Rattle.sweep_labels.specs.Coming.{AllArrive}
 use Rattle.sweep.specs.Bounds.{cuts_of}
 use Rattle.sweep.proofs.GrownLemmas.{sound_same, further_same, further_more}
@@ -14,8 +14,8 @@ returns-then-above-clause-led c =
     let listed : c.deref.result.now ≡ case.arrivals.items = search rules in
     let arrive : AllArrive case.instance.now (cuts_of case) c.deref.result.now = subst (AllArrive case.instance.now (cuts_of case)) (sym listed) c.requires.sound.arrive in
     let over : IsTrue c.in_ok-above.above = subst IsTrue (sym c.if-above.true) refl in
-    arc_dropped case c.args.self.now.made c.args.from.now c.args.step.now c.in_ok-label.label c.in_ok-missing.missing c.in_ok-gains.gains c.requires.origin
-    (λ g is. c.in_ok-label.ensures (cuts_of case) arrive g is) c.in_ok-missing.ensures c.in_ok-gains.ensures.gains (c.in_ok-above.ensures over)
+    arc_dropped case c.args.self.now.made c.args.from.now c.args.step.now c.in_ok-label.label (record { ships = c.in_ok-less.field-0; triples = c.missing_triples.result }) c.in_ok-gains.gains c.requires.origin
+    (λ g is. c.in_ok-label.ensures (cuts_of case) arrive g is) c.in_ok-less.ensures c.missing_triples.ensures c.in_ok-gains.ensures.gains (c.in_ok-above.ensures over)
 
 pub keep-requires : goal.keep-requires
 keep-requires c = sound_same c.args.case.now _ _ c.requires.sound c.in_ok-gains.ensures.lanes refl

@@ -1,4 +1,4 @@
-use Rattle.std.proofs.Common.{◌<◌, true, IsTrue, length, length-append, refl, sym, ap, subst, arith}
+use Rattle.std.proofs.Common.{◌<◌, IsTrue, length, length-append, refl, sym, ap, subst, arith}
 use Rattle.sweep_labels.specs.Labels.{label_of}
 use Rattle.sweep.proofs.GoingLemmas.{at_number, at_number_on, bound_treated, led_treated}
 use Rattle.sweep.proofs.sweeper.Sweeper.treat.Goals as goal
