@@ -1,6 +1,7 @@
 -- Lows of worked open dossiers: what an open leaf shows by its bound, and what by prices.
 use Rattle.std.proofs.Common.{◌≡◌, ℕ, ◌+◌, ◌*◌, ◌<◌, ◌≤◌, List, [], ◌∷◌, filter, All, Contains, refl, sym, ap, ◌∙◌, subst, ◌⊎◌, inl, inr, Some, arith}
 use Rattle.std.proofs.lemmas.List.Elements.{All-cons, All-nil, All-head, All-tail}
+use Rattle.std.proofs.lemmas.Option.{same_Some}
 use Rattle.list_laws.specs.Among.{IsAmong}
 use Rattle.list_laws.proofs.Lists.{same-tails, same-heads}
 use Rattle.lock_model.specs.Fitting.{deck_of}
@@ -18,7 +19,7 @@ use Rattle.lock_rules.proofs.RowInstances.{chambers-narrow, ships-narrow, narrow
 use Rattle.price_rules.specs.Prices.{PriceList, PlainCut, Spares, IsUncut, IsLoose, AreLoose, Reaches}
 use Rattle.price_rules.proofs.ReachLemmas.{reached-without}
 use Rattle.closing_rules.specs.ProvedCuts.{CertCut}
-use Rattle.closing_rules.specs.ListedPrices.{IsPricedBy, cut_in}
+use Rattle.closing_rules.specs.ListedPrices.{IsPricedBy, cut_in, ship_prices}
 use Rattle.closing_rules.specs.declared.grounds.Ground.TheVariants as by
 use Rattle.certificate_rules.specs.declared.certificate.Mark.{Mark}
 use Rattle.certificate_rules.specs.declared.certificate.Mark.TheVariants as mark
@@ -32,7 +33,7 @@ use Rattle.certificate_rules.proofs.CertRows.{narrow_cuts, low_prices}
 abbrev row_marks : Mark → List Mark
 row_marks m = mark.Split ∷ mark.Split ∷ m ∷ mark.Leaf by.Bound ∷ mark.Leaf by.Bound ∷ []
 
-abbrev row_certificate : Plan → List CertCut → List (List ℕ) → Mark → Certificate
+abbrev row_certificate : Plan → List CertCut → List PriceList → Mark → Certificate
 row_certificate P cuts prices m = record { cost = 120; cuts = cuts; plan = P; prices = prices; tree = row_marks m }
 
 abbrev first_held : List (List Group)
@@ -124,9 +125,9 @@ no-loose ok (g ∷ gs) uncut is = go (no-loose ok gs (All-tail (IsUncut (narrow 
 
 priced-both : (ok : IsInstance chambers-narrow ships-narrow) (n : ℕ) → IsPricedBy (narrow ok) (cuts_in (narrow ok) narrow_cuts) low_prices 0 2 both_together n
 priced-both ok n = record {
-  own = 8400 ∷ 8400 ∷ [];
+  own = ship_prices (8400 ∷ 8400 ∷ []);
   there = refl;
-  reached = reached-without (narrow ok) (cuts_in (narrow ok) narrow_cuts) 2 both_together (8400 ∷ 8400 ∷ []) n 0 (omega arith) (λ loose h. no-loose ok loose h.uncut h.trace);
+  reached = reached-without (narrow ok) (cuts_in (narrow ok) narrow_cuts) 2 both_together (ship_prices (8400 ∷ 8400 ∷ [])) n 0 (omega arith) (λ loose h. no-loose ok loose h.uncut h.trace);
 }
 
 -- the low is what the prices show: the cost, as no more counts
@@ -139,8 +140,8 @@ row-priced ok P = record {
 
 -- ---- prices that show less than the bound of the root, which is 70
 
-abbrev no_worth : List (List ℕ)
-no_worth = (0 ∷ 0 ∷ []) ∷ []
+abbrev no_worth : List PriceList
+no_worth = ship_prices (0 ∷ 0 ∷ []) ∷ []
 
 empty-loose : (ok : IsInstance chambers-narrow ships-narrow) (cuts : List PlainCut) → AreLoose (narrow ok) cuts 0 root_lines (λ c. [])
 empty-loose ok cuts = record {
@@ -157,14 +158,14 @@ row-bounded ok P = record {
   greatest = λ n few shown. below n shown;
 }
   where
-    some-same : (own : List ℕ) → Some (0 ∷ 0 ∷ []) ≡ Some own → 0 ∷ 0 ∷ [] ≡ own
-    some-same own e = cc
+    some-same : (own : PriceList) → Some (ship_prices (0 ∷ 0 ∷ [])) ≡ Some own → ship_prices (0 ∷ 0 ∷ []) ≡ own
+    some-same own e = same_Some (ship_prices (0 ∷ 0 ∷ [])) own e
 
     at_root : (n : ℕ) → ShowsCost (narrow ok) [] no_worth n 0 root_lines (mark.OpenPriced 0) → n ≤ 70
     at_root n (inl h) = h
     at_root n (inr h) =
         let reached = subst (λ own. Reaches (narrow ok) [] 0 root_lines own n) (sym (some-same h.own h.there)) h.reached in
-        let high : 100 * n + 0 < 100 * 0 + 0 + 100 = reached.high (λ c. []) (empty-loose ok []) in
+        let high : 100 * n + 0 + 0 < 100 * 0 + 0 + 0 + 100 = reached.high (λ c. []) (empty-loose ok []) in
         omega (arith, high)
 
     below : (n : ℕ) → IsTreeShowing (narrow ok) (root-certificate P) n → n ≤ 70

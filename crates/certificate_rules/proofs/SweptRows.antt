@@ -14,6 +14,7 @@ use Rattle.price_rules.specs.Prices.{PriceList, Spares, IsUncut}
 use Rattle.sweep_rules.specs.Uncut.{IsUncutPlan, times_over}
 use Rattle.sweep_rules.proofs.RowLock.{row}
 use Rattle.sweep_rules.proofs.Rows.{in_order-swept}
+use Rattle.closing_rules.specs.ListedPrices.{ship_prices}
 use Rattle.closing_rules.specs.declared.grounds.Ground.TheVariants as by
 use Rattle.certificate_rules.specs.declared.certificate.Mark.{Mark}
 use Rattle.certificate_rules.specs.declared.certificate.Mark.TheVariants as mark
@@ -25,11 +26,11 @@ abbrev swept : ℕ → Mark
 swept number = mark.Leaf (by.Swept number)
 
 abbrev row_prices : List PriceList
-row_prices = (3500 ∷ 5000 ∷ 5000 ∷ []) ∷ []
+row_prices = ship_prices (3500 ∷ 5000 ∷ 5000 ∷ []) ∷ []
 
 -- three ships of one way, one at a time: first come, first served costs 225, which is swept
 row-swept : IsMarkTree row (EndsNode row 225 [] row_prices) 3 0 root_lines (swept 0 ∷ []) []
-row-swept = inl (swept 0, record { root = refl; own = 3500 ∷ 5000 ∷ 5000 ∷ []; there = refl; swept = in_order-swept }, refl)
+row-swept = inl (swept 0, record { root = refl; own = ship_prices (3500 ∷ 5000 ∷ 5000 ∷ []); there = refl; swept = in_order-swept }, refl)
 
 -- no such prices: `rejected tree 0 reason 14 SweptWrong`
 row-no_prices : MarksFail row (EndsNode row 225 [] row_prices) (swept 1 ∷ []) (swept 1 ∷ []) reason.SweptWrong
@@ -53,7 +54,7 @@ row-long =
     inr (
       (λ e. cc),
       refl,
-      inl (swept 0, record { root = refl; own = 3500 ∷ 5000 ∷ 5000 ∷ []; there = refl; swept = in_order-swept }, refl),
+      inl (swept 0, record { root = refl; own = ship_prices (3500 ∷ 5000 ∷ 5000 ∷ []); there = refl; swept = in_order-swept }, refl),
     )
 
 -- ---- the narrow chamber without its cut: both ships together are an uncut group, which costs 80
@@ -87,9 +88,9 @@ together-plan ok = record { uncut = λ c known. only c known; once = λ s known.
 
 -- 120 isn't swept: `rejected tree 0 reason 14 SweptWrong`
 row-no_cut : (ok : IsInstance chambers-narrow ships-narrow)
-    → MarksFail (narrow ok) (EndsNode (narrow ok) 120 [] ((8500 ∷ 8500 ∷ []) ∷ [])) (swept 0 ∷ []) (swept 0 ∷ []) reason.SweptWrong
+    → MarksFail (narrow ok) (EndsNode (narrow ok) 120 [] (ship_prices (8500 ∷ 8500 ∷ []) ∷ [])) (swept 0 ∷ []) (swept 0 ∷ []) reason.SweptWrong
 row-no_cut ok = inl (inl (refl, not, refl))
   where
-    not : EndsNode (narrow ok) 120 [] ((8500 ∷ 8500 ∷ []) ∷ []) 0 root_lines (swept 0) ⊎ (swept 0 ≡ mark.Split) → ⊥
+    not : EndsNode (narrow ok) 120 [] (ship_prices (8500 ∷ 8500 ∷ []) ∷ []) 0 root_lines (swept 0) ⊎ (swept 0 ≡ mark.Split) → ⊥
     not (inl h) = absurd (omega (arith, h.swept.least together (together-plan ok)))
     not (inr h) = cc

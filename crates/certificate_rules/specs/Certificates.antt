@@ -36,7 +36,7 @@ abbrev pub cuts_in : Instance → List CertCut → List PlainCut
 cuts_in I cuts = map (λ (c : CertCut). cut_in I c.chamber c.ships) cuts
 
 -- the mark ends a node of depth k against this cost: it closes it, or leaves it open, by prices that are there where it names some
-abbrev pub EndsNode : Instance → ℕ → List CertCut → List (List ℕ) → ℕ → List (List Group) → Mark → Type 0
+abbrev pub EndsNode : Instance → ℕ → List CertCut → List PriceList → ℕ → List (List Group) → Mark → Type 0
 EndsNode I cost cuts prices k lines mark.Split = ⊥
 EndsNode I cost cuts prices k lines (mark.Leaf why) =
     IsClosedBy I (IsCutBy I cuts) (IsPricedBy I (cuts_in I cuts) prices) (IsSweptBy I (cuts_in I cuts) prices) cost (bound_of I k lines) k lines why

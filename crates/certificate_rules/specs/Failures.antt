@@ -82,7 +82,7 @@ pub record PricesFail (I : Instance) (prices : List PriceList) (v : ℕ) (r : Re
 
 -- The first place and reason at which a certificate fails; `Fail` says it of the marks that are left at the place.
 abbrev pub FailsAt :
-    Instance → ℕ → List CertCut → List (List ℕ) → Plan → List Mark → (List Mark → Reason → Type 0) → FailurePlace → Reason → Type 0
+    Instance → ℕ → List CertCut → List PriceList → Plan → List Mark → (List Mark → Reason → Type 0) → FailurePlace → Reason → Type 0
 FailsAt I cost cuts prices plan tree Fail place.Plan r = (IsLegal I plan → ⊥) × (r ≡ reason.PlanIllegal)
 FailsAt I cost cuts prices plan tree Fail place.Cost r = IsLegal I plan × (cost_of I plan ≢ cost) × (r ≡ reason.CostWrong)
 FailsAt I cost cuts prices plan tree Fail (place.Cut c) r = IsLegal I plan × (cost_of I plan ≡ cost) × CutFails I cuts c r

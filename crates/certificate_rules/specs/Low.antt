@@ -4,6 +4,7 @@ use Rattle.lock_model.specs.declared.instance.Instance.{Instance}
 use Rattle.lock_model.specs.declared.group.Group.{Group}
 use Rattle.lock_rules.specs.Node.{root_lines}
 use Rattle.lock_rules.specs.Bound.{bound_of}
+use Rattle.price_rules.specs.Prices.{PriceList}
 use Rattle.closing_rules.specs.ProvedCuts.{CertCut}
 use Rattle.closing_rules.specs.ListedPrices.{IsPricedBy}
 use Rattle.certificate_rules.specs.declared.certificate.Mark.{Mark}
@@ -11,7 +12,7 @@ use Rattle.certificate_rules.specs.Certificates.{Certificate, cuts_in, EndsNode,
 use Rattle.certificate_rules.specs.declared.certificate.Mark.TheVariants as mark
 
 -- A mark that leaves a node of depth k open shows n of it: the node's bound is as much, or the node reaches it by the mark's prices.
-abbrev pub ShowsCost : Instance → List CertCut → List (List ℕ) → ℕ → ℕ → List (List Group) → Mark → Type 0
+abbrev pub ShowsCost : Instance → List CertCut → List PriceList → ℕ → ℕ → List (List Group) → Mark → Type 0
 ShowsCost I cuts prices n k lines mark.Split = ⊤
 ShowsCost I cuts prices n k lines (mark.Leaf why) = ⊤
 ShowsCost I cuts prices n k lines mark.Open = n ≤ bound_of I k lines
@@ -19,7 +20,7 @@ ShowsCost I cuts prices n k lines (mark.OpenPriced number) =
     (n ≤ bound_of I k lines) ⊎ IsPricedBy I (cuts_in I cuts) prices number k lines n
 
 -- the mark ends the node against this cost, and shows n of it where it leaves it open
-abbrev pub EndsShowing : Instance → ℕ → List CertCut → List (List ℕ) → ℕ → ℕ → List (List Group) → Mark → Type 0
+abbrev pub EndsShowing : Instance → ℕ → List CertCut → List PriceList → ℕ → ℕ → List (List Group) → Mark → Type 0
 EndsShowing I cost cuts prices n k lines m = EndsNode I cost cuts prices k lines m × ShowsCost I cuts prices n k lines m
 
 -- exactly one certificate tree of the root, each open leaf of which shows n

@@ -13,7 +13,7 @@
 //! cheapest (`AcceptLemmas`), no certificate that stands fails (`FailLemmas`). They take the laws of the
 //! tree, `TreeLaws` of `closing_rules`. `CertRows` holds worked rows, `SweptRows` those of a root that
 //! is closed by a sweep, `LowRows` those of open leaves; of lemmas for others, `TreeLemmas` tells of
-//! trees of marks and `LeastLemmas` of the least of some numbers.
+//! trees of marks and `LeastLemmas` of numbers with a low one among them.
 #![tactic(auto)]
 
 mod certificate;
