@@ -15,6 +15,7 @@ use Rattle.certificate_rules.specs.declared.certificate.FailurePlace.TheVariants
 use Rattle.certificate_rules.specs.declared.certificate.Reason.{Reason}
 use Rattle.certificate_rules.specs.declared.certificate.Reason.TheVariants as reason
 use Rattle.closing_rules.specs.ProvedCuts.{CertCut, IsShaped, IsProved}
+use Rattle.price_rules.specs.Prices.{PriceList}
 use Rattle.closing_rules.specs.ListedPrices.{AreShapedPrices}
 use Rattle.certificate_rules.specs.Certificates.{IsMarkTree}
 use Rattle.certificate_rules.specs.Failures.{FailInOrder, FailsHere, TreeFails, MarksFail, CutFails, PricesFail, FailsAt}
@@ -105,13 +106,13 @@ cut-same I cuts c d p q a b =
     ]
 
 -- no prices before the first that fail are others
-prices-earlier : (I : Instance) (prices : List (List ℕ)) (u v : ℕ) (p q : Reason) → PricesFail I prices u p → PricesFail I prices v q → u < v → ⊥
+prices-earlier : (I : Instance) (prices : List PriceList) (u v : ℕ) (p q : Reason) → PricesFail I prices u p → PricesFail I prices v q → u < v → ⊥
 prices-earlier I prices u v p q a b less =
     let here : u < length (take v prices) = omega (arith, length-take v prices, less, a.known) in
     let read : slice_index_or (take v prices) u a.own ≡ a.own = get_or-take v prices u a.own less ∙ a.is in
     a.misshaped (subst (AreShapedPrices I) read (b.before u a.own here))
 
-prices-same : (I : Instance) (prices : List (List ℕ)) (u v : ℕ) (p q : Reason) → PricesFail I prices u p → PricesFail I prices v q → (u ≡ v) × (p ≡ q)
+prices-same : (I : Instance) (prices : List PriceList) (u v : ℕ) (p q : Reason) → PricesFail I prices u p → PricesFail I prices v q → (u ≡ v) × (p ≡ q)
 prices-same I prices u v p q a b =
     elim (leb_tells (suc u) v) [
       | inl earlier ↦ absurd (prices-earlier I prices u v p q a b (omega (arith, earlier.1)))
@@ -122,7 +123,7 @@ prices-same I prices u v p q a b =
     ]
 
 -- two first failures are the same
-module _ (I : Instance) (Ends : ℕ → List (List Group) → Mark → Type 0) (no_split : (k : ℕ) (lines : List (List Group)) → Ends k lines mark.Split → ⊥) (cost : ℕ) (cuts : List CertCut) (prices : List (List ℕ)) (plan : Plan) (tree : List Mark) where
+module _ (I : Instance) (Ends : ℕ → List (List Group) → Mark → Type 0) (no_split : (k : ℕ) (lines : List (List Group)) → Ends k lines mark.Split → ⊥) (cost : ℕ) (cuts : List CertCut) (prices : List PriceList) (plan : Plan) (tree : List Mark) where
   abbrev FailsFirst : FailurePlace → Reason → Type 0
   FailsFirst = FailsAt I cost cuts prices plan tree (MarksFail I Ends tree)
 

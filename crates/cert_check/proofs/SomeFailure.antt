@@ -17,6 +17,7 @@ use Rattle.certificate_rules.specs.declared.certificate.FailurePlace.TheVariants
 use Rattle.certificate_rules.specs.declared.certificate.Reason.{Reason}
 use Rattle.certificate_rules.specs.declared.certificate.Reason.TheVariants as reason
 use Rattle.closing_rules.specs.ProvedCuts.{CertCut, IsShaped, IsProved}
+use Rattle.price_rules.specs.Prices.{PriceList}
 use Rattle.closing_rules.specs.ListedPrices.{AreShapedPrices}
 use Rattle.certificate_rules.specs.Certificates.{IsMarkTree}
 use Rattle.certificate_rules.specs.Failures.{FailInOrder, FailsHere, TreeFails, MarksFail, CutFails, PricesFail, FailsAt, reason_of}
@@ -124,7 +125,7 @@ cuts-end I before (c ∷ cs) proved =
     ])
 
 -- the first prices behind these that aren't one for each ship
-prices-fail : (I : Instance) (before after : List (List ℕ)) (own : List ℕ) → All (AreShapedPrices I) before → (AreShapedPrices I own → ⊥) → PricesFail I (before ++ own ∷ after) (length before) reason.PricesShape
+prices-fail : (I : Instance) (before after : List PriceList) (own : PriceList) → All (AreShapedPrices I) before → (AreShapedPrices I own → ⊥) → PricesFail I (before ++ own ∷ after) (length before) reason.PricesShape
 prices-fail I before after own shaped other = record {
   own = own;
   known = omega (arith, length-append before (own ∷ after));
@@ -134,7 +135,7 @@ prices-fail I before after own shaped other = record {
   reason = refl;
 }
 
-prices-end : (I : Instance) (before after : List (List ℕ)) → All (AreShapedPrices I) before → Must (All (AreShapedPrices I) (before ++ after) ⊎ ((v : ℕ) × (r : Reason) × PricesFail I (before ++ after) v r))
+prices-end : (I : Instance) (before after : List PriceList) → All (AreShapedPrices I) before → Must (All (AreShapedPrices I) (before ++ after) ⊎ ((v : ℕ) × (r : Reason) × PricesFail I (before ++ after) v r))
 prices-end I before [] shaped = must (inl (All-same (AreShapedPrices I) (before ++ []) before (append-nil before) shaped))
 prices-end I before (own ∷ us) shaped =
     next (one-way (AreShapedPrices I own)) (λ one. elim one [
@@ -146,7 +147,7 @@ prices-end I before (own ∷ us) shaped =
     ])
 
 -- what holds or fails is told whole
-module _ (I : Instance) (Ends : ℕ → List (List Group) → Mark → Type 0) (cost : ℕ) (cuts : List CertCut) (prices : List (List ℕ)) (plan : Plan) (tree : List Mark) where
+module _ (I : Instance) (Ends : ℕ → List (List Group) → Mark → Type 0) (cost : ℕ) (cuts : List CertCut) (prices : List PriceList) (plan : Plan) (tree : List Mark) where
   abbrev Holds : Type 0
   Holds = IsLegal I plan × (cost_of I plan ≡ cost) × All (IsProved I) cuts × All (AreShapedPrices I) prices × IsMarkTree I Ends (length I.ships) 0 root_lines tree []
 

@@ -8,6 +8,7 @@ use Rattle.certificate_rules.specs.declared.certificate.FailurePlace.{FailurePla
 use Rattle.certificate_rules.specs.declared.certificate.Reason.{Reason}
 use Rattle.certificate_rules.specs.declared.certificate.Mark.{Mark}
 use Rattle.closing_rules.specs.ProvedCuts.{CertCut, IsProved}
+use Rattle.price_rules.specs.Prices.{PriceList}
 use Rattle.closing_rules.specs.ListedPrices.{AreShapedPrices}
 use Rattle.certificate_rules.specs.Certificates.{Certificate, EndsNode, IsMarkTree, Stands}
 use Rattle.certificate_rules.specs.Low.{EndsShowing}
@@ -25,25 +26,25 @@ pub record HaveOneFailure : Type 0 where
   pub none : (I : Instance) (C : Certificate) (p : FailurePlace) (r : Reason) → Stands I C → Fails I C p r → ⊥
   pub some : (I : Instance) (C : Certificate) → (Stands I C → ⊥) → ((p : FailurePlace) (r : Reason) → Fails I C p r → ⊥) → ⊥
 
--- the plan is legal and has the cost, each cut is proved, and each prices are one for each ship
-pub record HoldBeforeMarks (I : Instance) (cost : ℕ) (cuts : List CertCut) (prices : List (List ℕ)) (plan : Plan) : Type 0 where
+-- the plan is legal and has the cost, each cut is proved, and each prices are one for each ship and of triples of these
+pub record HoldBeforeMarks (I : Instance) (cost : ℕ) (cuts : List CertCut) (prices : List PriceList) (plan : Plan) : Type 0 where
   pub legal : IsLegal I plan
   pub costs : cost_of I plan ≡ cost
   pub proved : All (IsProved I) cuts
   pub shaped : All (AreShapedPrices I) prices
 
 -- the plan, the cost, a cut or prices fail first, whatever marks there are
-pub record FailBeforeMarks (I : Instance) (cost : ℕ) (cuts : List CertCut) (prices : List (List ℕ)) (plan : Plan) (p : FailurePlace) (r : Reason) : Type 0 where
+pub record FailBeforeMarks (I : Instance) (cost : ℕ) (cuts : List CertCut) (prices : List PriceList) (plan : Plan) (p : FailurePlace) (r : Reason) : Type 0 where
   pub fails : FailsAt I cost cuts prices plan [] (λ stuck why. ⊥) p r
 
 -- the marks fail first at mark p
-pub record FailAtMark (I : Instance) (cost : ℕ) (cuts : List CertCut) (prices : List (List ℕ)) (marks : List Mark) (p : ℕ) (r : Reason) : Type 0 where
+pub record FailAtMark (I : Instance) (cost : ℕ) (cuts : List CertCut) (prices : List PriceList) (marks : List Mark) (p : ℕ) (r : Reason) : Type 0 where
   pub stuck : List Mark
   pub place : p ≡ length marks - length stuck
   pub fails : MarksFail I (EndsNode I cost cuts prices) marks stuck r
 
 -- the marks are one tree of the root, and of the numbers up to the cost `low` is the greatest that all its open leaves show
-pub record IsLowOfMarks (I : Instance) (cost : ℕ) (cuts : List CertCut) (prices : List (List ℕ)) (marks : List Mark) (low : ℕ) : Type 0 where
+pub record IsLowOfMarks (I : Instance) (cost : ℕ) (cuts : List CertCut) (prices : List PriceList) (marks : List Mark) (low : ℕ) : Type 0 where
   pub tree : IsMarkTree I (EndsNode I cost cuts prices) (length I.ships) 0 root_lines marks []
   pub most : low ≤ cost
   pub shown : IsMarkTree I (EndsShowing I cost cuts prices low) (length I.ships) 0 root_lines marks []

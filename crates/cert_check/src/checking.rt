@@ -23,11 +23,11 @@ use certificate_rules::{FailurePlace, Mark, Reason};
 use chamber_times::cost;
 use deck_laws::{heredity, normal_form};
 use flow_bounds::{Roster, throughput};
+use kept_prices::KeptPrices;
 use lock_model::{Instance, Plan};
 use master_branch::root;
 use mooring_rules::judge_plan;
 use no_memory::NoMemory;
-use price_terms::Prices;
 use std::alloc::Global;
 
 // Whether the plan is legal.
@@ -47,13 +47,13 @@ fn costs(instance: &Instance, plan: &Plan, wanted: u64) -> bool
 
 // The first failure of what comes before the marks of a certificate: its plan, then its cost in
 // minutes, then its cuts in order, then its prices in order. None where the plan is legal and costs as
-// much, each cut is proved, and each prices are one for each ship.
+// much, each cut is proved, and each prices are one for each ship and of triples of these.
 fn first_failure_before_marks(
     alloc: Global,
     instance: &Instance,
     cost: u64,
     cuts: &CertCuts,
-    prices: &[Prices],
+    prices: &[KeptPrices],
     plan: &Plan,
 ) -> Result<Option<(FailurePlace, Reason)>, NoMemory>
     ensures none { IfOk result (λ first. IfNone first (HoldBeforeMarks instance.now cost cuts.now prices.now plan.now)) }

@@ -8,8 +8,9 @@ ghost use Rattle.certificate_rules.specs.Certificates.{cuts_in};
 
 use certificate_parts::CertCut;
 use flow_bounds::Roster;
+use kept_prices::KeptPrices;
 use lock_model::Instance;
-use price_terms::{ChamberCut, Prices};
+use price_terms::ChamberCut;
 
 // What the marks of a certificate are held against: the instance, its roster and its throughput, and
 // the cost in minutes, the prices and the cuts of the certificate, each cut about a chamber and ships
@@ -21,7 +22,7 @@ pub(crate) struct Claim<'c> {
     pub(crate) throughput: u64,
     pub(crate) cost: u64,
     pub(crate) cuts: &'c [CertCut],
-    pub(crate) prices: &'c [Prices],
+    pub(crate) prices: &'c [KeptPrices],
     pub(crate) chamber_cuts: &'c [ChamberCut],
     pub(crate) ghost rostered: { IsRosterOf instance.now roster.now },
     pub(crate) ghost told: { throughput ≡ throughput_of instance.now },

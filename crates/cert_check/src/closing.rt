@@ -82,10 +82,11 @@ fn is_priced_by(
     if number >= claim.prices.len() as u64 {
         return Ok(false);
     }
+    let prices = claim.prices[number as usize].prices();
     let asked = PricedNode {
         instance: claim.instance,
         node,
-        prices: &claim.prices[number as usize],
+        prices: &prices,
         cuts: claim.chamber_cuts,
     };
     match reaches(&mut space.kept, &asked, claim.cost, PRICE_ROOM) {

@@ -25,10 +25,11 @@ fn most_priced(
     requires there { number < length claim.now.prices.now }
     ensures { IfOk result (IsMostPriced claim.now node.now.depth node.now.lines number most) }
 {
+    let prices = claim.prices[number as usize].prices();
     let asked = PricedNode {
         instance: claim.instance,
         node,
-        prices: &claim.prices[number as usize],
+        prices: &prices,
         cuts: claim.chamber_cuts,
     };
     match greatest_cost(&mut space.kept, &asked, most, PRICE_ROOM) {

@@ -7,18 +7,20 @@ ghost use Rattle.certificate_rules.specs.Failures.{PricesFail};
 ghost use Rattle.certificate_rules.specs.declared.certificate.Reason.{Reason as Why};
 
 use certificate_parts::CertCut;
+use kept_prices::KeptPrices;
 use lock_model::Instance;
-use price_terms::{ChamberCut, Prices};
+use price_terms::ChamberCut;
 use std::alloc::{AllocError, Global};
 
-// The first prices that aren't one for each ship, by their number. None where all are.
-pub(crate) fn first_misshaped(instance: &Instance, prices: &[Prices]) -> Option<u64>
+// The first prices that aren't one for each ship and of triples of these, by their number. None where all
+// are.
+pub(crate) fn first_misshaped(instance: &Instance, prices: &[KeptPrices]) -> Option<u64>
     ensures none { IfNone result (All (AreShapedPrices instance.now) prices.now) }
     ensures some { IfSome result (λ number. PricesFail instance.now prices.now number Why.PricesShape) }
 {
     let count = instance.ships.as_slice().len();
     for (number, own) in prices.iter().enumerate() {
-        if own.as_slice().len() != count {
+        if !own.are_of(count) {
             return Some(number as u64);
         }
     }

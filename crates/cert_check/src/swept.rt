@@ -26,10 +26,11 @@ fn is_cost_swept(alloc: Global, claim: &Claim, number: usize) -> Result<bool, No
     requires { number < length claim.now.prices.now }
     ensures { IfOk result (λ swept. IsTrue swept ↔ HasSweptCost claim.now) }
 {
+    let prices = claim.prices[number].prices();
     let asked = SweepAsked {
         instance: claim.instance,
         cuts: claim.chamber_cuts,
-        prices: &claim.prices[number],
+        prices: &prices,
         goal: claim.cost,
     };
     match sweep(alloc, &asked, SWEEP_ROOM) {

@@ -1,8 +1,8 @@
 //! Certificates, whole and open.
 use crate::numbered::Numbered;
 use certificate_rules::Mark;
+use kept_prices::KeptPrices;
 use lock_model::{Plan, Ships};
-use price_terms::Prices;
 use refute_rules::Refutation;
 use std::marker::Model;
 
@@ -26,8 +26,8 @@ impl Model for CertCut {
 /// The cuts of a certificate.
 pub type CertCuts = Numbered<CertCut>;
 
-/// The prices of a certificate: each a list of prices of ships.
-pub type PriceLists = Numbered<Prices>;
+/// The prices of a certificate: each a list of prices of ships, and of triples of them.
+pub type PriceLists = Numbered<KeptPrices>;
 
 /// The marks of a certificate: one for each node of its tree, each node before its children.
 pub type MarkList = Numbered<Mark>;
