@@ -5,6 +5,7 @@ pub mod WhyLemmas
 pub mod CutLemmas
 pub mod SpotLemmas
 pub mod PlanLemmas
+pub mod TripleLemmas
 pub mod PriceLemmas
 pub mod TreeLemmas
 pub mod MarkLemmas

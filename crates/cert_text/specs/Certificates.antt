@@ -3,6 +3,7 @@ use Rattle.std.specs.Prelude.{ℕ, ◌≡◌, ◌&&◌, Bool, List, [], ◌∷�
 use Rattle.serde_json.specs.Data.{Data}
 use Rattle.lock_model.specs.declared.ship.Ship.{Ship}
 use Rattle.lock_model.specs.declared.plan.Plan.{Plan}
+use Rattle.price_rules.specs.Prices.{PriceList}
 use Rattle.closing_rules.specs.ProvedCuts.{CertCut}
 use Rattle.certificate_rules.specs.Certificates.{Certificate}
 use Rattle.certificate_rules.specs.WellFormed.{numbering_of}
@@ -22,7 +23,7 @@ use Rattle.cert_text.specs.Marks.{mark_numbers, mark_in}
 use Rattle.cert_text.specs.Trees.{tree_data, tree_in}
 
 -- the keys behind the plan, with prices in a version that has them
-abbrev pub end_members : Version → List (List ℕ) → Data → List (List ℕ × Data)
+abbrev pub end_members : Version → List PriceList → Data → List (List ℕ × Data)
 end_members version prices tree =
     if has_prices version then (codes "prices", price_lists_data prices) ∷ (codes "tree", tree) ∷ [] else (codes "tree", tree) ∷ []
 
@@ -35,7 +36,7 @@ abbrev pub plain_members : ℕ → List CertCut → Plan → Data → List (List
 plain_members cost cuts plan tree = claim_members cost cuts ((codes "plan", plan_data plan) ∷ (codes "tree", tree) ∷ [])
 
 -- the object of a version with these parts
-abbrev pub parts_data : Version → ℕ → List CertCut → Plan → List (List ℕ) → Data → Data
+abbrev pub parts_data : Version → ℕ → List CertCut → Plan → List PriceList → Data → Data
 parts_data version cost cuts plan prices tree =
     object_data (claim_members cost cuts ((codes "plan", plan_data plan) ∷ end_members version prices tree))
 

@@ -8,6 +8,7 @@ pub mod Trees
 pub mod Versions
 pub mod Cuts
 pub mod Plans
+pub mod Triples
 pub mod Prices
 pub mod Certificates
 pub mod Heading

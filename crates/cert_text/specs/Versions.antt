@@ -1,8 +1,9 @@
 -- The version that a certificate is written in: the first that has its parts.
-use Rattle.std.specs.Prelude.{◌||◌, not, ℕ, ◌==◌, Bool, true, false, List, length, if◌then◌else◌}
+use Rattle.std.specs.Prelude.{◌||◌, not, ◌==◌, Bool, true, false, List, length, if◌then◌else◌}
 use Rattle.std.specs.List.{list_any}
 use Rattle.refute_rules.specs.declared.refutation.Refutation.{Refutation}
 use Rattle.refute_rules.specs.declared.refutation.Refutation.TheVariants as refutation
+use Rattle.price_rules.specs.Prices.{PriceList}
 use Rattle.closing_rules.specs.ProvedCuts.{CertCut}
 use Rattle.certificate_rules.specs.Certificates.{Certificate}
 use Rattle.cert_text.specs.declared.heading.Form.{Form}
@@ -17,6 +18,12 @@ has_prices First = false
 has_prices Second = false
 has_prices Third = true
 has_prices Fourth = true
+
+abbrev pub has_triples : Version → Bool
+has_triples First = false
+has_triples Second = false
+has_triples Third = false
+has_triples Fourth = true
 
 -- its `why` begins with 5
 abbrev pub is_by_clash : Refutation → Bool
@@ -47,8 +54,16 @@ has_outside version = list_any (λ c. is_outside version c.refutation)
 abbrev pub has_later : Version → List Mark → Bool
 has_later version = list_any (is_later version)
 
+-- some prices are of triples
+abbrev pub name_triples : List PriceList → Bool
+name_triples = list_any (λ p. not (length p.triples == 0))
+
+-- a part that no version before the fourth has: a mark of a sweep or of an open leaf by prices, or triples
+abbrev pub needs_fourth : List PriceList → List Mark → Bool
+needs_fourth prices tree = has_later Third tree || name_triples prices
+
 -- a part that no version before the third has: prices, a mark for them, or a berth tree
-abbrev pub needs_third : List CertCut → List (List ℕ) → Bool → Bool
+abbrev pub needs_third : List CertCut → List PriceList → Bool → Bool
 needs_third cuts prices marked = not (length prices == 0) || (marked || has_outside Second cuts)
 
 -- an open certificate is of the second version at least
@@ -58,6 +73,6 @@ needs_second form.Open cuts = true
 
 unfoldable pub version_of : Form → Certificate → Version
 version_of own C =
-    if has_later Third C.tree then Fourth
+    if needs_fourth C.prices C.tree then Fourth
     else (if needs_third C.cuts C.prices (has_later Second C.tree) then Third
     else (if needs_second own C.cuts then Second else First))

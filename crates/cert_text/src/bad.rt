@@ -2,6 +2,7 @@
 ghost use Rattle.std.specs.Prelude.{◌≡◌};
 
 use instance_text::Bad;
+use no_memory::NoMemory;
 use std::alloc::AllocError;
 
 /// The first fault of a dossier, numbered from 1 in this order.
@@ -43,6 +44,16 @@ impl From<AllocError> for DossierError {
     ghost from_gives = { λ _ error. error ≡ Want };
 
     fn from(_error: AllocError) -> DossierError {
+        DossierError::NoMemory
+    }
+}
+
+impl From<NoMemory> for DossierError {
+    ghost use Rattle.cert_text.specs.declared.bad.DossierError.TheVariants.{NoMemory as Want};
+
+    ghost from_gives = { λ _ error. error ≡ Want };
+
+    fn from(_error: NoMemory) -> DossierError {
         DossierError::NoMemory
     }
 }

@@ -14,7 +14,7 @@ pub enum Version {
     Second,
     /// Cuts that are refuted by a berth tree besides, prices, and marks for them.
     Third,
-    /// A mark of a sweep besides.
+    /// Marks of sweeps and of open leaves by prices besides, and prices of triples.
     Fourth,
 }
 

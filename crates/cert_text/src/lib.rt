@@ -9,7 +9,7 @@
 //! Definitions: `specs/Dossier` (the canonical dossier, what a text means, its first fault),
 //! `Heading` (the line before the certificate), `Versions` (which version a certificate is written
 //! in), `Certificates` (a certificate as a JSON value, and the first part at fault), `Cost`, `Cuts`,
-//! `Plans`, `Prices` and `Trees` (its parts, both ways), `Marks` (the numbers of a mark, by the ships
+//! `Plans`, `Prices`, `Triples` and `Trees` (its parts, both ways), `Marks` (the numbers of a mark, by the ships
 //! of the instance), `Ships` (lists of ships), `Fields` (numbers, lists and keys) and `Steps` (of which
 //! the first that finds nothing ends the search).
 #![tactic(auto)]
@@ -28,6 +28,7 @@ mod read;
 mod ships;
 mod spots;
 mod tree;
+mod triples;
 mod value;
 mod version;
 mod why;

@@ -1,10 +1,12 @@
 //! The object of a certificate from its parts.
-ghost use Rattle.std.specs.Prelude.{◌≡◌, [], ◌∷◌, All, IfOk, Some, codes};
+ghost use Rattle.std.specs.Prelude.{◌≡◌, [], ◌∷◌, All, IfOk, Some, true, codes};
 ghost use Rattle.certificate_rules.specs.WellFormed.{IsFormedCut, IsFormedLockage};
 ghost use Rattle.serde_json.specs.View.{view, members_view};
 ghost use Rattle.cert_text.specs.Fields.{members};
 ghost use Rattle.cert_text.specs.Cuts.{cuts_data, cuts_in};
 ghost use Rattle.cert_text.specs.Plans.{IsPlanBack};
+ghost use Rattle.cert_text.specs.Prices.{AreListsBack};
+ghost use Rattle.cert_text.specs.Versions.{has_prices};
 ghost use Rattle.cert_text.specs.Certificates.{claim_members, plain_members, parts_data};
 
 use crate::cost::put_cost;
@@ -14,9 +16,9 @@ use crate::plan::put_plan;
 use crate::prices::put_prices;
 use crate::version::has_prices;
 use certificate_parts::CertCuts;
+use kept_prices::KeptPrices;
 use lock_model::Plan;
 use no_memory::NoMemory;
-use price_terms::Prices;
 use serde_json::{Map, Value};
 use std::alloc::Global;
 
@@ -26,7 +28,7 @@ pub struct Parts<'a> {
     pub cost: u64,
     pub cuts: &'a CertCuts,
     pub plan: &'a Plan,
-    pub prices: &'a [Prices],
+    pub prices: &'a [KeptPrices],
 }
 
 /// The cost and the cuts, by their keys.
@@ -73,6 +75,7 @@ pub fn put_parts(
     ensures value { IfOk result (λ v. view v ≡ parts_data version parts.now.cost parts.now.cuts.now parts.now.plan.now parts.now.prices.now (view tree)) }
     ensures cuts_back { IfOk result (λ _. cuts_in (cuts_data parts.now.cuts.now) ≡ Some parts.now.cuts.now) }
     ensures plan_back { IfOk result (λ _. IsPlanBack parts.now.plan.now) }
+    ensures prices_back { IfOk result (λ _. has_prices version ≡ true → AreListsBack parts.now.prices.now) }
 {
     let mut map = put_members(alloc, parts, tree)?;
     if has_prices(version) {

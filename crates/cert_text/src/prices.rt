@@ -1,46 +1,77 @@
 //! Lists of prices as JSON values.
-ghost use Rattle.std.specs.Prelude.{◌≡◌, ◌≤◌, length, All, IfOk, IfErr, Some, None, map, codes};
+ghost use Rattle.std.specs.Prelude.{◌≡◌, ◌≤◌, length, IfOk, IfErr, Some, None, map, codes};
 ghost use Rattle.serde_json.specs.View.{view, items_of, items_view};
 ghost use Rattle.cert_text.specs.Answers.{IsCausedFault};
 ghost use Rattle.cert_text.specs.Fields.{numbers_data, all_in, value_at};
-ghost use Rattle.cert_text.specs.Prices.{price_lists_data, items_prices, prices_in, price_lists_in, prices_under, AreListsBack};
+ghost use Rattle.cert_text.specs.Triples.{triple_data, triple_in};
+ghost use Rattle.cert_text.specs.Prices.{keyed_data, prices_data, price_lists_data, items_prices, ship_prices_in, keyed_prices, prices_in, price_lists_in, prices_under, AreListsBack};
 ghost use Rattle.cert_text.specs.declared.bad.BadDossier.TheVariants.{Shape};
 
 use crate::bad::{BadDossier, DossierError};
 use crate::heading::Version;
-use crate::value::number_below;
-use crate::version::has_prices;
+use crate::triples::{put_triples, triples_at};
+use crate::value::{has_members, number_below};
+use crate::version::{has_prices, has_triples};
 use crate::why::push_words;
 use arrayvec::ArrayVec;
 use certificate_parts::PriceLists;
+use kept_prices::KeptPrices;
 use lock_model::SHIPS;
+use no_memory::NoMemory;
+use price_rules::Triple;
 use price_terms::Prices;
-use serde_json::Value;
+use serde_json::{Map, Value};
 use std::alloc::{AllocError, Global};
 
-/// Prices as a value.
-fn put_one(alloc: Global, prices: &Prices) -> Result<Value, AllocError>
+/// Prices of ships as a value.
+fn put_ship_prices(alloc: Global, prices: &[u32]) -> Result<Value, AllocError>
     ensures { IfOk result (λ v. view v ≡ numbers_data prices.now) }
 {
     let mut list = Vec::new(alloc);
-    push_words(&mut list, prices.as_slice())?;
+    push_words(&mut list, prices)?;
     Ok(Value::Array(list))
 }
 
+/// Prices of ships and of triples as an object.
+#[tactic(auto, unfolding(serde_json::proofs::OnLiterals::serde_json_on_literals))]
+fn put_keyed(alloc: Global, prices: &[u32], triples: &[Triple]) -> Result<Value, AllocError>
+    ensures value { IfOk result (λ v. view v ≡ keyed_data (record { ships = prices.now; triples = triples.now })) }
+    ensures reads_back { IfOk result (λ _. all_in triple_in (items_of (map triple_data triples.now)) ≡ Some triples.now) }
+{
+    let mut map = Map::new(alloc);
+    let ships = put_ship_prices(alloc, prices)?;
+    serde_json::put(&mut map, alloc, "ships", ships)?;
+    let triples = put_triples(alloc, triples)?;
+    serde_json::put(&mut map, alloc, "triples", triples)?;
+    Ok(Value::Object(map))
+}
+
+/// Prices as a value: a list where there are no triples.
+fn put_one(alloc: Global, prices: &[u32], triples: &[Triple]) -> Result<Value, AllocError>
+    ensures value { IfOk result (λ v. view v ≡ prices_data (record { ships = prices.now; triples = triples.now })) }
+    ensures reads_back { IfOk result (λ _. all_in triple_in (items_of (map triple_data triples.now)) ≡ Some triples.now) }
+{
+    if triples.is_empty() {
+        put_ship_prices(alloc, prices)
+    } else {
+        put_keyed(alloc, prices, triples)
+    }
+}
+
 /// The values of prices in order.
-fn put_all(alloc: Global, prices: &[Prices]) -> Result<Vec<Value>, AllocError>
-    ensures { IfOk result (λ list. map view list.items ≡ map numbers_data prices.now) }
+fn put_all(alloc: Global, prices: &[KeptPrices]) -> Result<Vec<Value>, AllocError>
+    ensures values { IfOk result (λ list. map view list.items ≡ map prices_data prices.now) }
+    ensures reads_back { IfOk result (λ _. AreListsBack prices.now) }
 {
     let mut list = Vec::with_capacity(alloc, prices.len())?;
     for own in prices {
-        list.push(put_one(alloc, own)?)?;
+        list.push(put_one(alloc, own.ships(), own.triples())?)?;
     }
     Ok(list)
 }
 
 /// Prices as a value that `prices_at` reads back where each list may be so long.
-#[tactic(auto, using(crate::proofs::PriceLemmas::lists_back))]
-pub(crate) fn put_prices(alloc: Global, prices: &[Prices]) -> Result<Value, AllocError>
+pub(crate) fn put_prices(alloc: Global, prices: &[KeptPrices]) -> Result<Value, AllocError>
     ensures value { IfOk result (λ v. view v ≡ price_lists_data prices.now) }
     ensures reads_back { IfOk result (λ _. AreListsBack prices.now) }
 {
@@ -48,7 +79,7 @@ pub(crate) fn put_prices(alloc: Global, prices: &[Prices]) -> Result<Value, Allo
     Ok(Value::Array(list))
 }
 
-/// The prices that 1 to `most` values write.
+/// The prices of ships that 1 to `most` values write.
 fn read_prices(most: usize, list: &[Value]) -> Option<Prices>
     requires fits { most ≤ SHIPS }
     requires some { 1 ≤ length list.now }
@@ -63,7 +94,7 @@ fn read_prices(most: usize, list: &[Value]) -> Option<Prices>
     Prices::new(prices.as_slice())
 }
 
-/// The prices that values write, if they are 1 to `most`.
+/// The prices of ships that values write, if they are 1 to `most`.
 fn items_prices(most: usize, list: &[Value]) -> Option<Prices>
     requires { most ≤ SHIPS }
     ensures { result ≡ items_prices most (items_view list.now) }
@@ -77,23 +108,57 @@ fn items_prices(most: usize, list: &[Value]) -> Option<Prices>
     read_prices(most, list)
 }
 
-/// The prices that a value lists.
-fn prices_in(most: usize, value: &Value) -> Option<Prices>
+/// The prices of ships that a value lists.
+fn ship_prices_in(most: usize, value: &Value) -> Option<Prices>
     requires { most ≤ SHIPS }
-    ensures { result ≡ prices_in most (view value.now) }
+    ensures { result ≡ ship_prices_in most (view value.now) }
 {
     items_prices(most, value.as_array()?.as_slice())
 }
 
-/// The lists of prices that values write.
-fn all_in(alloc: Global, most: usize, list: &[Value]) -> Result<Option<PriceLists>, AllocError>
+/// The prices of ships at the key `ships`.
+fn ship_prices_at(most: usize, value: &Value) -> Option<Prices>
     requires { most ≤ SHIPS }
-    ensures { IfOk result (λ o. o ≡ all_in (prices_in most) (items_view list.now)) }
+    ensures { result ≡ value_at (codes "ships") (ship_prices_in most) (view value.now) }
+{
+    ship_prices_in(most, value.get("ships")?)
+}
+
+/// The prices of ships and of triples at their keys.
+fn keyed_prices(most: usize, value: &Value) -> Option<Prices>
+    requires { most ≤ SHIPS }
+    ensures { result ≡ keyed_prices most (view value.now) }
+{
+    let prices = ship_prices_at(most, value)?;
+    triples_at(&prices, value)
+}
+
+/// The prices that a value writes as a list, or in a version that has triples as an object.
+fn prices_in(most: usize, version: Version, value: &Value) -> Option<Prices>
+    requires { most ≤ SHIPS }
+    ensures { result ≡ prices_in most version (view value.now) }
+{
+    if has_triples(version) && has_members(value, 2) {
+        keyed_prices(most, value)
+    } else {
+        ship_prices_in(most, value)
+    }
+}
+
+/// The lists of prices that values write.
+fn all_in(
+    alloc: Global,
+    most: usize,
+    version: Version,
+    list: &[Value],
+) -> Result<Option<PriceLists>, NoMemory>
+    requires { most ≤ SHIPS }
+    ensures { IfOk result (λ o. o ≡ all_in (prices_in most version) (items_view list.now)) }
 {
     let mut found = PriceLists::new(alloc);
     for value in list {
-        match prices_in(most, value) {
-            Some(prices) => found.push(prices)?,
+        match prices_in(most, version, value) {
+            Some(prices) => found.push(KeptPrices::of(alloc, &prices)?)?,
             None => return Ok(None),
         }
     }
@@ -104,24 +169,30 @@ fn all_in(alloc: Global, most: usize, list: &[Value]) -> Result<Option<PriceList
 fn price_lists_in(
     alloc: Global,
     most: usize,
+    version: Version,
     value: &Value,
-) -> Result<Option<PriceLists>, AllocError>
+) -> Result<Option<PriceLists>, NoMemory>
     requires { most ≤ SHIPS }
-    ensures { IfOk result (λ o. o ≡ price_lists_in most (view value.now)) }
+    ensures { IfOk result (λ o. o ≡ price_lists_in most version (view value.now)) }
 {
     match value.as_array() {
-        Some(list) => all_in(alloc, most, list.as_slice()),
+        Some(list) => all_in(alloc, most, version, list.as_slice()),
         None => Ok(None),
     }
 }
 
 /// The lists of prices at the key `prices`.
-fn own_prices(alloc: Global, most: usize, value: &Value) -> Result<Option<PriceLists>, AllocError>
+fn own_prices(
+    alloc: Global,
+    most: usize,
+    version: Version,
+    value: &Value,
+) -> Result<Option<PriceLists>, NoMemory>
     requires { most ≤ SHIPS }
-    ensures { IfOk result (λ o. o ≡ value_at (codes "prices") (price_lists_in most) (view value.now)) }
+    ensures { IfOk result (λ o. o ≡ value_at (codes "prices") (price_lists_in most version) (view value.now)) }
 {
     match value.get("prices") {
-        Some(prices) => price_lists_in(alloc, most, prices),
+        Some(prices) => price_lists_in(alloc, most, version, prices),
         None => Ok(None),
     }
 }
@@ -132,19 +203,19 @@ fn prices_under(
     most: usize,
     version: Version,
     value: &Value,
-) -> Result<Option<PriceLists>, AllocError>
+) -> Result<Option<PriceLists>, NoMemory>
     requires { most ≤ SHIPS }
     ensures { IfOk result (λ o. o ≡ prices_under most version (view value.now)) }
 {
     if has_prices(version) {
-        own_prices(alloc, most, value)
+        own_prices(alloc, most, version, value)
     } else {
         Ok(Some(PriceLists::new(alloc)))
     }
 }
 
-/// The lists of prices at the key `prices`, each of 1 to `most` numbers up to 1,000,000; none where the
-/// version has no prices. Answers `Shape(6)` exactly where there are no such lists, or else want of memory.
+/// The lists of prices at the key `prices`, each of 1 to `most` numbers up to 1,000,000, and in a version
+/// that has them of triples in order besides; none where the version has no prices. Answers `Shape(6)` exactly where there are no such lists, or else want of memory.
 pub fn prices_at(
     alloc: Global,
     most: usize,

@@ -1,11 +1,11 @@
 //! The version that a certificate is written in.
 ghost use Rattle.std.specs.Prelude.{◌≡◌};
-ghost use Rattle.cert_text.specs.Versions.{has_prices, is_by_clash, is_by_berths, is_outside, has_outside, has_later, needs_third, needs_second, version_of};
+ghost use Rattle.cert_text.specs.Versions.{has_prices, has_triples, is_by_clash, is_by_berths, is_outside, has_outside, has_later, name_triples, needs_fourth, needs_third, needs_second, version_of};
 
 use crate::heading::{Form, Version};
 use crate::marks::is_later;
 use certificate_parts::{CertCuts, Certificate, MarkList};
-use price_terms::Prices;
+use kept_prices::KeptPrices;
 use refute_rules::Refutation;
 
 /// Whether a version has prices.
@@ -15,6 +15,16 @@ pub fn has_prices(version: Version) -> bool
     match version {
         Version::First | Version::Second => false,
         Version::Third | Version::Fourth => true,
+    }
+}
+
+/// Whether a version has prices of triples.
+pub fn has_triples(version: Version) -> bool
+    ensures { result ≡ has_triples version }
+{
+    match version {
+        Version::First | Version::Second | Version::Third => false,
+        Version::Fourth => true,
     }
 }
 
@@ -67,9 +77,28 @@ fn has_later(version: Version, tree: &MarkList) -> bool
     false
 }
 
+/// Whether some prices are of triples.
+fn name_triples(prices: &[KeptPrices]) -> bool
+    ensures { result ≡ name_triples prices.now }
+{
+    for own in prices {
+        if !own.triples().is_empty() {
+            return true;
+        }
+    }
+    false
+}
+
+/// Whether a certificate with these prices and this tree has a part that no version before the fourth has.
+fn needs_fourth(prices: &[KeptPrices], tree: &MarkList) -> bool
+    ensures { result ≡ needs_fourth prices.now tree.now }
+{
+    has_later(Version::Third, tree) || name_triples(prices)
+}
+
 /// Whether a certificate with these cuts and prices, and with marks for prices or without, has a part
 /// that no version before the third has.
-fn needs_third(cuts: &CertCuts, prices: &[Prices], marked: bool) -> bool
+fn needs_third(cuts: &CertCuts, prices: &[KeptPrices], marked: bool) -> bool
     ensures { result ≡ needs_third cuts.now prices.now marked }
 {
     !prices.is_empty() || marked || has_outside(Version::Second, cuts)
@@ -96,7 +125,7 @@ pub(crate) fn version_of(form: Form, certificate: &Certificate) -> Version
         tree,
         ..
     } = certificate;
-    if has_later(Version::Third, tree) {
+    if needs_fourth(prices.as_slice(), tree) {
         Version::Fourth
     } else if needs_third(cuts, prices.as_slice(), has_later(Version::Second, tree)) {
         Version::Third
