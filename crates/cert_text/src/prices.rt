@@ -4,7 +4,8 @@ ghost use Rattle.serde_json.specs.View.{view, items_of, items_view};
 ghost use Rattle.cert_text.specs.Answers.{IsCausedFault};
 ghost use Rattle.cert_text.specs.Fields.{numbers_data, all_in, value_at};
 ghost use Rattle.cert_text.specs.Triples.{triple_data, triple_in};
-ghost use Rattle.cert_text.specs.Prices.{keyed_data, prices_data, price_lists_data, items_prices, ship_prices_in, keyed_prices, prices_in, price_lists_in, prices_under, AreListsBack};
+ghost use Rattle.cert_text.specs.Prices.{keyed_data, prices_data, price_lists_data, AreListsBack};
+ghost use Rattle.cert_text.specs.Prices.{items_prices, ship_prices_in, keyed_prices, prices_in, price_lists_in, prices_under};
 ghost use Rattle.cert_text.specs.declared.bad.BadDossier.TheVariants.{Shape};
 
 use crate::bad::{BadDossier, DossierError};

@@ -1,6 +1,7 @@
 //! The version that a certificate is written in.
 ghost use Rattle.std.specs.Prelude.{◌≡◌};
-ghost use Rattle.cert_text.specs.Versions.{has_prices, has_triples, is_by_clash, is_by_berths, is_outside, has_outside, has_later, name_triples, needs_fourth, needs_third, needs_second, version_of};
+ghost use Rattle.cert_text.specs.Versions.{has_prices, has_triples, is_by_clash, is_by_berths, is_outside, has_outside, has_later, name_triples};
+ghost use Rattle.cert_text.specs.Versions.{needs_fourth, needs_third, needs_second, version_of};
 
 use crate::heading::{Form, Version};
 use crate::marks::is_later;
