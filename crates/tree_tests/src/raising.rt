@@ -83,3 +83,55 @@ fn it_goes_back_to_the_best_prices_and_ends_where_the_goal_is_out_of_sight(
     assert!(rt; !ascent.raise(&[0, 1], &standing(0, 0), 3500, 70));
     Ok(())
 }
+
+// The ships of the one triple of these prices, and its price.
+fn triple_of(prices: &Prices) -> Option<[u32; 4]> {
+    match prices.triples() {
+        [it] => Some([it.first as u32, it.second as u32, it.third as u32, it.price]),
+        _ => None,
+    }
+}
+
+// Three ships that stand in pairs, each two together once.
+fn in_pairs() -> Stands {
+    let mut stands = Stands::new();
+    for (one, other) in [(0, 1), (0, 2), (1, 2)] {
+        let mut ships = Ships::single(one);
+        ships.push(other);
+        stands.add(&ships);
+    }
+    stands
+}
+
+#[test]
+fn a_triple_that_several_groups_have_gets_dearer(rt: HostRuntime) -> Result<(), Fail> {
+    let prices = Prices::new(&[1000, 1000, 1000]).ok_or("no prices")?;
+    let pace = Pace {
+        steps: 1,
+        kept: 9,
+        patience: 15,
+        span: 10,
+        spans: 1,
+    };
+    let mut ascent = Ascent::new(prices, pace);
+    assert!(rt; !ascent.widen(pace));
+    assert!(rt; ascent.raise(&[0, 1, 2], &in_pairs(), 0, 70));
+    assert!(rt; ascent.tried().triples().is_empty());
+    // three groups have two of the three ships, and one may
+    assert!(rt; ascent.widen(pace));
+    assert!(rt; ascent.best_sum() == 0);
+    assert!(rt; ascent.tried().as_slice() == [1000, 1000, 1000].as_slice());
+    assert!(rt; triple_of(ascent.tried()) == Some([0, 1, 2, 1]));
+    // a quarter of a step over a gap of 7000: two sevenths of that up, each ship a seventh down
+    assert!(rt; ascent.raise(&[0, 1, 2], &in_pairs(), 0, 70));
+    assert!(rt; ascent.tried().as_slice() == [750, 750, 750].as_slice());
+    assert!(rt; triple_of(ascent.tried()) == Some([0, 1, 2, 501]));
+    // there is no other triple
+    assert!(rt; !ascent.widen(pace));
+    // an ascent that begins with a triple leaves its price
+    let mut below = Ascent::new(ascent.tried().copy(), pace);
+    assert!(rt; below.raise(&[0, 1, 2], &in_pairs(), 0, 70));
+    assert!(rt; below.tried().as_slice() == [0, 0, 0].as_slice());
+    assert!(rt; triple_of(below.tried()) == Some([0, 1, 2, 501]));
+    Ok(())
+}
