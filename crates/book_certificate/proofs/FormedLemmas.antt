@@ -16,6 +16,7 @@ use Rattle.lock_rules.specs.Plan.{IsLegalLockage, IsLegal}
 use Rattle.lock_rules.specs.Arrival.{missing_ships}
 use Rattle.lock_rules.proofs.SplitLemmas.{missing-known}
 use Rattle.lock_rules.proofs.ThroughputLemmas.{few_lockages, count-plan}
+use Rattle.price_rules.specs.Prices.{PriceList}
 use Rattle.refute_rules.specs.declared.refutation.Quick.{Quick}
 use Rattle.refute_rules.specs.declared.refutation.Quick.TheVariants.{Area, Row, Column}
 use Rattle.refute_rules.specs.declared.refutation.Refutation.{Refutation}
@@ -99,11 +100,11 @@ listed ships n low = elim (leb_tells (suc FEW_SHIPS) (length ships)) [
 pub plan-listed : (I : Instance) (P : Plan) → IsLegal I P → length P.lockages ≤ most_lockages I.ships
 plan-listed I P legal = listed I.ships (length P.lockages) (few-lockages I P legal)
 
-pub prices-formed : (I : Instance) (prices : List ℕ) → ArePrices prices → AreShapedPrices I prices → AreFormedPrices (most_lockages I.ships) prices
+pub prices-formed : (I : Instance) (prices : PriceList) → ArePrices prices → AreShapedPrices I prices → AreFormedPrices (most_lockages I.ships) prices
 prices-formed I prices are shaped =
     let count = shaped.count in
     let some = I.limits.ship_count.0 in
-    ((omega (arith, count, some), listed I.ships (length prices) (omega (arith, count))), are)
+    ((omega (arith, count, some), listed I.ships (length prices.ships) (omega (arith, count))), are)
 
 -- a mark may name each ship
 probed : (ships : List Ship) (s : ℕ) → length ships ≤ SHIPS → s < length ships → s < probed_ships (numbering_of ships)

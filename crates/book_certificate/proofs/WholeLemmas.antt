@@ -10,6 +10,7 @@ use Rattle.lock_model.specs.declared.instance.Instance.{Instance}
 use Rattle.lock_model.specs.declared.plan.Plan.{Plan}
 use Rattle.lock_rules.specs.Plan.{IsLegal, cost_of}
 use Rattle.lock_model.specs.declared.group.Group.{Group}
+use Rattle.price_rules.specs.Prices.{PriceList}
 use Rattle.book_rules.specs.declared.book.ShownLow.{ShownLow}
 use Rattle.book_rules.specs.declared.book.SlotState.{SlotState}
 use Rattle.book_rules.specs.declared.book.SlotState.TheVariants as slot
@@ -66,7 +67,7 @@ module _ (b : Book) (keeps : KeepsBook b) (parts : KeepsParts b) (C : Certificat
       (slot-tree b parts.family Ends ends (length I.ships) 0 (root-depth b parts.family) parts.family.some []))
 
   -- the same by the cost, the cuts and the prices of the certificate
-  own-tree : (Ends : ℕ → List CertCut → List (List ℕ) → ℕ → List (List Group) → Mark → Type 0) → EndSlots b (Ends (best_cost b) (map cert_cut b.cuts) b.prices) → IsMarkTree I (Ends C.cost C.cuts C.prices) (length I.ships) 0 root.lines C.tree []
+  own-tree : (Ends : ℕ → List CertCut → List PriceList → ℕ → List (List Group) → Mark → Type 0) → EndSlots b (Ends (best_cost b) (map cert_cut b.cuts) b.prices) → IsMarkTree I (Ends C.cost C.cuts C.prices) (length I.ships) 0 root.lines C.tree []
   own-tree Ends ends =
       subst (λ prices. IsMarkTree I (Ends C.cost C.cuts prices) (length I.ships) 0 root.lines C.tree []) (sym is.prices)
       (subst (λ cuts. IsMarkTree I (Ends C.cost cuts b.prices) (length I.ships) 0 root.lines C.tree []) (sym is.cuts)

@@ -1,8 +1,9 @@
 -- A cost that was shown of a slot is kept.
-use Rattle.std.proofs.Common.{◌≡◌, ℕ, ◌<◌, List, refl, sym, ap, ◌∙◌, subst, Bool, true, false, not, cond, slice_get, nat_le, Some, None}
+use Rattle.std.proofs.Common.{◌≡◌, ℕ, ◌<◌, refl, sym, ap, ◌∙◌, subst, Bool, true, false, not, cond, slice_get, nat_le, Some, None}
 use Rattle.std.proofs.lemmas.Bool.{le-leb, lt-leb, not_from_false, not_from_true}
 use Rattle.std.specs.declared.option.Option.{Option}
 use Rattle.mooring_rules.specs.declared.breaks.BrokenPlan.{BrokenPlan}
+use Rattle.price_rules.specs.Prices.{PriceList}
 use Rattle.book_rules.specs.declared.book.ShownLow.{ShownLow}
 use Rattle.book_rules.specs.Book.{Book, slot_at, slot_low, is_live}
 use Rattle.book_rules.specs.Events as machine
@@ -55,7 +56,7 @@ module _ (b : Book) (id number : ℕ) (shown : Shown) where
     pub low-unpriced : slice_get b.prices number ≡ None → Does b (show_low id number shown) (reply.Refused (refusing.NoPrices number)) b
     low-unpriced without = refused-so (reply.Refused (refusing.NoPrices number)) (machine.NoPrices number) b refl (ap (low_refusal b id number shown) without) refl
 
-    module _ (prices : List ℕ) (there : slice_get b.prices number ≡ Some prices) where
+    module _ (prices : PriceList) (there : slice_get b.prices number ≡ Some prices) where
       abbrev compared : Bool → Option (machine.Reply BrokenPlan)
       compared t = cond t (Some (machine.Lower shown.cost known)) None
 

@@ -1,28 +1,32 @@
 -- Posting, of cuts and prices, and parking.
-use Rattle.std.proofs.Common.{◌≡◌, ◌≢◌, ℕ, zero, suc, ◌<◌, List, [], ◌∷◌, length, refl, sym, ap, ◌∙◌, subst, arith, Bool, true, false, not, cond, nat_eq, nat_lt, slice_get, slice_index_or, Some, None, All, ne_eqb, eq-eqb}
+use Rattle.std.proofs.Common.{◌≡◌, ℕ, zero, suc, ◌<◌, List, [], ◌∷◌, length, refl, sym, ap, ◌∙◌, subst, arith, Bool, true, false, not, cond, nat_lt, slice_get, slice_index_or, Some, None, All}
 use Rattle.std.proofs.lemmas.Bool.{not_from_false, not_from_true, false≢true}
 use Rattle.std.specs.declared.option.Option.{Option}
 use Rattle.std.specs.List.{list_all}
 use Rattle.std.specs.Bool.{Decides}
-use Rattle.std.proofs.lemmas.Bool.Decides.{Decides-ltb, Decides-by_and, same_from_decides}
+use Rattle.std.proofs.lemmas.Bool.Decides.{Decides-ltb, Decides-by_and, Decides-like, same_from_decides}
 use Rattle.lock_model.specs.Deck.{Deck}
 use Rattle.lock_model.specs.declared.group.Group.{Group}
+use Rattle.lock_model.specs.declared.instance.Instance.{Instance}
 use Rattle.lock_rules.specs.Node.{Node as TreeNode, line_at}
 use Rattle.refute_rules.specs.Cuts.{Cut, IsCut}
 use Rattle.refute_rules.specs.Spots.{IsSpent}
 use Rattle.mooring_rules.specs.declared.breaks.BrokenPlan.{BrokenPlan}
+use Rattle.price_rules.specs.Prices.{PriceList}
+use Rattle.price_rules.specs.declared.triple.Triple.{Triple}
 use Rattle.closing_rules.specs.ListedPrices.{ArePrices}
 use Rattle.book_rules.specs.declared.book.SlotState.TheVariants as slot
 use Rattle.book_rules.specs.declared.book.Entry.TheVariants as entry
 use Rattle.book_rules.specs.Book.{Book, slot_at, is_held, group_at}
 use Rattle.book_rules.specs.Events as machine
 use Rattle.book_rules.specs.Events.{post, post_prices, park}
-use Rattle.book_rules.specs.Tests.{has_clash, is_own_cut}
+use Rattle.book_rules.specs.Tests.{has_clash, is_own_cut, has_shape}
 use Rattle.book_rules.specs.Step.{step, noted, with_state, posted, priced, parked, park_group, is_lent}
+use Rattle.book_rules.proofs.TestLemmas.{has_shape-decides}
 use Rattle.book_core.specs.declared.reply.Reply.TheVariants as reply
 use Rattle.book_core.specs.declared.reply.Refusal.TheVariants as refusing
 use Rattle.book_core.specs.Parking.{group_lent, names_lent}
-use Rattle.book_core.specs.Growing.{kept_cut, kept_prices}
+use Rattle.book_core.specs.Growing.{kept_cut, with_prices}
 use Rattle.book_core.specs.Keeps.{IsSound}
 use Rattle.book_core.specs.Replies.{Answers, Does, Steps}
 use Rattle.book_core.proofs.CloseLemmas.{Out, none, pick-true, pick-false}
@@ -59,29 +63,33 @@ post-done b cut number new e number_is is = Steps (record {
 
 -- ---- post_prices
 
-module _ (b : Book) (prices : List ℕ) where
-  abbrev are_one_each : Bool
-  are_one_each = nat_eq (length prices) (length b.case.instance.ships)
+pub told-shape : (r : Bool) (I : Instance) (prices : PriceList) (n : ℕ)
+    → n ≡ length I.ships → Decides r ((length prices.ships ≡ n) × All (λ (t : Triple). t.third < n) prices.triples) → r ≡ has_shape I prices
+told-shape r I prices n count decides =
+    let of_ships : Decides r ((length prices.ships ≡ length I.ships) × All (λ (t : Triple). t.third < length I.ships) prices.triples) =
+    subst (λ m. Decides r ((length prices.ships ≡ m) × All (λ (t : Triple). t.third < m) prices.triples)) count decides in
+    same_from_decides r (has_shape I prices) (Decides-like r (λ h. record { count = h.0; known = h.1 }) (λ s. (s.count, s.known)) of_ships) (has_shape-decides I prices)
 
+module _ (b : Book) (prices : PriceList) where
   abbrev kept_so : Out
   kept_so = priced {Break = BrokenPlan} b prices
 
-  pub prices-other : length prices ≢ length b.case.instance.ships → Does b (post_prices prices) (reply.Refused refusing.OtherPrices) b
-  prices-other other = Steps (record {
+  pub prices-other : has_shape b.case.instance prices ≡ false → Does b (post_prices prices) (reply.Refused refusing.OtherPrices) b
+  prices-other e = Steps (record {
     found = None;
     judged = tt;
     answer = machine.OtherPrices;
     said = refl;
-    same = pick-true (not are_one_each) (b, machine.OtherPrices) kept_so (not_from_false are_one_each (ne_eqb (length prices) (length b.case.instance.ships) other));
+    same = pick-true (not (has_shape b.case.instance prices)) (b, machine.OtherPrices) kept_so (not_from_false (has_shape b.case.instance prices) e);
   })
 
-  way-prices : length prices ≡ length b.case.instance.ships → step (λ _ _. none) b (post_prices prices) ≡ kept_so
-  way-prices e = pick-false (not are_one_each) (b, machine.OtherPrices) kept_so (not_from_true are_one_each (eq-eqb (length prices) (length b.case.instance.ships) e))
+  way-prices : has_shape b.case.instance prices ≡ true → step (λ _ _. none) b (post_prices prices) ≡ kept_so
+  way-prices e = pick-false (not (has_shape b.case.instance prices)) (b, machine.OtherPrices) kept_so (not_from_true (has_shape b.case.instance prices) e)
 
-  pub prices-sound : IsSound b → ArePrices prices → length prices ≡ length b.case.instance.ships → IsSound (kept_prices b prices)
+  pub prices-sound : IsSound b → ArePrices prices → has_shape b.case.instance prices ≡ true → IsSound (with_prices b prices)
   prices-sound sound good e = subst IsSound (ap (λ (o : Out). o.0) (way-prices e)) (step-sound b (post_prices prices) None sound good tt)
 
-  pub prices-done : (number : ℕ) (new : Book) → length prices ≡ length b.case.instance.ships → number ≡ length b.prices → new ≡ kept_prices b prices → Does b (post_prices prices) (reply.Priced number) new
+  pub prices-done : (number : ℕ) (new : Book) → has_shape b.case.instance prices ≡ true → number ≡ length b.prices → new ≡ with_prices b prices → Does b (post_prices prices) (reply.Priced number) new
   prices-done number new e number_is is = Steps (record {
     found = None;
     judged = tt;

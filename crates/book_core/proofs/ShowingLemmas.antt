@@ -7,7 +7,7 @@ use Rattle.std.proofs.lemmas.Bool.Decides.{Decides-like, same_from_decides}
 use Rattle.lock_model.specs.declared.instance.Instance.{Instance}
 use Rattle.lock_rules.specs.Node.{Node}
 use Rattle.mooring_rules.specs.declared.breaks.BrokenPlan.{BrokenPlan}
-use Rattle.price_rules.specs.Prices.{Reaches}
+use Rattle.price_rules.specs.Prices.{PriceList, Reaches}
 use Rattle.price_terms.specs.Claim.{Claim, IsReached}
 use Rattle.price_terms.specs.Cuts.{plain_cut, plain_cuts, same_cut}
 use Rattle.price_terms.specs.declared.cut.ChamberCut.{ChamberCut}
@@ -76,7 +76,7 @@ module _ (b : Book) (id number : ℕ) (shown : Shown) where
   pub no-prices : slice_get b.prices number ≡ None → refusal ≡ Some (machine.NoPrices number)
   no-prices none = ap (price_refusal b id number shown) none
 
-  module _ (prices : List ℕ) (there : slice_get b.prices number ≡ Some prices) where
+  module _ (prices : PriceList) (there : slice_get b.prices number ≡ Some prices) where
     abbrev tested : Bool → Option (machine.Reply BrokenPlan)
     tested t = cond (not t) (Some machine.NotShown) (cheaper_than (best_cost b) shown.cost)
 

@@ -1,10 +1,11 @@
 -- What was swept beside a book, compared with the book.
-use Rattle.std.proofs.Common.{◌≡◌, ℕ, zero, suc, ◌<◌, ◌≤◌, List, length, refl, sym, ap, ◌∙◌, subst, arith, Bool, true, false, not, cond, inl, inr, slice_get, nat_eq, Some, None}
+use Rattle.std.proofs.Common.{◌≡◌, ℕ, zero, suc, ◌<◌, ◌≤◌, length, refl, sym, ap, ◌∙◌, subst, arith, Bool, true, false, not, cond, inl, inr, slice_get, nat_eq, Some, None}
 use Rattle.std.proofs.lemmas.Bool.Decides.{eqb_tells}
 use Rattle.std.specs.declared.option.Option.{Option}
 use Rattle.lock_rules.specs.Node.{Node}
 use Rattle.mooring_rules.specs.declared.breaks.BrokenPlan.{BrokenPlan}
 use Rattle.sweep_rules.specs.Uncut.{IsSwept}
+use Rattle.price_rules.specs.Prices.{PriceList}
 use Rattle.price_terms.specs.Claim.{SweptClaim, IsSweptClaim}
 use Rattle.closing_rules.specs.declared.grounds.Ground.TheVariants as by
 use Rattle.book_rules.specs.Book.{Book, slot_at, best_cost}
@@ -47,13 +48,13 @@ module _ (b : Book) (id number : ℕ) (swept : Swept) where
   not-root e = ap rooted e
 
   module _ (root : nat_eq (slot_at b id).node.depth 0 ≡ true) where
-    by-prices : (o : Option (List ℕ)) → slice_get b.prices number ≡ o → refusal ≡ sweep_by_prices b number swept o
+    by-prices : (o : Option PriceList) → slice_get b.prices number ≡ o → refusal ≡ sweep_by_prices b number swept o
     by-prices o there = ap rooted root ∙ ap (sweep_by_prices b number swept) there
 
     pub without-prices : slice_get b.prices number ≡ None → refusal ≡ Some (machine.NoPrices number)
     without-prices none = by-prices None none
 
-    module _ (prices : List ℕ) (there : slice_get b.prices number ≡ Some prices) where
+    module _ (prices : PriceList) (there : slice_get b.prices number ≡ Some prices) where
       abbrev tested : Bool → Option (machine.Reply BrokenPlan)
       tested t = cond (not t) (Some machine.NotSwept) (cheaper_than (best_cost b) swept.cost)
 

@@ -1,6 +1,7 @@
 -- A book that has grown.
 use Rattle.std.specs.Prelude.{ℕ, suc, List, [], ◌∷◌, ◌++◌, nat_le, if◌then◌else◌, None}
 use Rattle.lock_model.specs.declared.instance.Instance.{Instance}
+use Rattle.price_rules.specs.Prices.{PriceList}
 use Rattle.refute_rules.specs.Cuts.{Cut}
 use Rattle.book_rules.specs.declared.book.SlotState.TheVariants as slot
 use Rattle.book_rules.specs.declared.book.Entry.TheVariants as entry
@@ -15,8 +16,8 @@ abbrev pub kept_cut : Book → Cut → Book
 kept_cut b cut = noted (record b { cuts = b.cuts ++ cut ∷ [] }) entry.Post
 
 -- the book with prices more
-abbrev pub kept_prices : Book → List ℕ → Book
-kept_prices b prices = noted (record b { prices = b.prices ++ prices ∷ [] }) entry.Prices
+abbrev pub with_prices : Book → PriceList → Book
+with_prices b prices = noted (record b { prices = b.prices ++ prices ∷ [] }) entry.Prices
 
 -- what is stored of a child with this bound
 abbrev pub stored_child : ℕ → ℕ → ℕ → ℕ → StoredSlot

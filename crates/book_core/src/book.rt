@@ -15,8 +15,8 @@ use crate::waiting::Waiting;
 use book_rules::{Entry, SlotState};
 use deck_cuts::Cut;
 use flow_bounds::Roster;
+use kept_prices::KeptPrices;
 use lock_model::{CHILDREN, Plan, WORKERS, WORKERS_AND_DRIVER};
-use price_terms::Prices;
 use std::marker::Model;
 
 /// The case, the opening plan, the slots, the cuts, the prices, the plans that replaced the opening
@@ -33,7 +33,7 @@ pub struct Book {
     pub(crate) roster: Roster,
     pub(crate) slots: Vec<StoredSlot>,
     pub(crate) cuts: KeptCuts,
-    pub(crate) prices: Vec<Prices>,
+    pub(crate) prices: Vec<KeptPrices>,
     pub(crate) plans: Vec<Plan>,
     pub(crate) best: Plan,
     pub(crate) best_cost: u64,
@@ -169,9 +169,9 @@ impl Book {
         self.cuts.get(number)
     }
 
-    /// The prices that were posted, in their order: lists of one price for each ship, in hundredths of
-    /// a minute.
-    pub fn prices(&self) -> &[Prices]
+    /// The prices that were posted, in their order: lists of one price for each ship and of triples of
+    /// these, in hundredths of a minute.
+    pub fn prices(&self) -> &[KeptPrices]
         ensures { result.now ≡ self.now.prices }
     {
         self.prices.as_slice()

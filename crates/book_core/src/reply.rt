@@ -63,7 +63,7 @@ pub enum Refusal {
     Absent(u8),
     /// Two ships of the named group of this slot clash.
     Clashes(u32),
-    /// The prices aren't one for each ship.
+    /// The prices aren't one for each ship, or a triple has another ship.
     OtherPrices,
     /// No prices have this number.
     NoPrices(u64),

@@ -1,7 +1,6 @@
 //! The event that closes a slot by what was shown of it beside the book: under its lock a book only
 //! compares, and works nothing out.
-ghost use Rattle.std.specs.Prelude.{◌≡◌, ◌<◌, length, map, Some, None, slice_get, nat_eq, IfSome, IfNone};
-ghost use Rattle.std.specs.Cmp.Lexicographic.{pointwise};
+ghost use Rattle.std.specs.Prelude.{◌≡◌, ◌<◌, length, map, Some, None, slice_get, IfSome, IfNone};
 ghost use Rattle.book_rules.specs.Book.{slot_at};
 ghost use Rattle.book_rules.specs.Events.{close_price};
 ghost use Rattle.book_rules.specs.Same.{same_node};
@@ -13,19 +12,13 @@ ghost use Rattle.book_core.specs.Telling.{told_cut, told_shown};
 use crate::book::Book;
 use crate::reply::{Refusal, Reply};
 use closing_rules::Ground;
+use kept_prices::KeptPrices;
 use master_branch::Node;
-use price_terms::{ChamberCut, Prices, Shown};
-
-// Whether two lists of prices are the same.
-fn same_prices(one: &Prices, other: &Prices) -> bool
-    ensures { result ≡ pointwise nat_eq one.now other.now }
-{
-    one.as_slice() == other.as_slice()
-}
+use price_terms::{ChamberCut, Shown};
 
 impl Book {
     // The prices of this number; None exactly where there are none.
-    pub(crate) fn prices_of(&self, number: u64) -> Option<&Prices>
+    pub(crate) fn prices_of(&self, number: u64) -> Option<&KeptPrices>
         ensures some { IfSome result (λ prices. slice_get self.now.prices number ≡ Some prices.now) }
         ensures none { IfNone result (slice_get self.now.prices number ≡ None) }
     {
@@ -52,7 +45,7 @@ impl Book {
 
     // Whether what was shown is of the book's instance, of this slot's node, of these prices and of
     // the first cuts of the book.
-    pub(crate) fn is_shown(&self, id: u32, prices: &Prices, shown: &Shown) -> bool
+    pub(crate) fn is_shown(&self, id: u32, prices: &KeptPrices, shown: &Shown) -> bool
         requires { id < length self.now.slots }
         ensures { result ≡ is_shown self.now id prices.now (told_shown shown.now) }
     {
@@ -62,7 +55,7 @@ impl Book {
         if !self.has_node(id, shown.node()) {
             return false;
         }
-        if !same_prices(shown.prices(), prices) {
+        if !prices.equals(shown.prices()) {
             return false;
         }
         self.has_first_cuts(shown.cuts())

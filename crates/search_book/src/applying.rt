@@ -36,7 +36,7 @@ fn replace(book: &mut Book, plan: Box<Plan>) -> Reply
 fn post_prices(book: &mut Book, prices: Box<Prices>) -> Reply
     ensures { Does book.old (machine.post_prices prices.value) result book.new }
 {
-    book.post_prices(Box::into_inner(prices))
+    book.post_prices(&prices)
 }
 
 // Makes one event by the method of its name.
