@@ -216,7 +216,8 @@ fn prices_under(
 }
 
 /// The lists of prices at the key `prices`, each of 1 to `most` numbers up to 1,000,000, and in a version
-/// that has them of triples in order besides; none where the version has no prices. Answers `Shape(6)` exactly where there are no such lists, or else want of memory.
+/// that has them of triples in order besides; none where the version has no prices. Answers `Shape(6)`
+/// exactly where there are no such lists, or else want of memory.
 pub fn prices_at(
     alloc: Global,
     most: usize,
