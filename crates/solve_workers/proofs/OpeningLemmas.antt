@@ -2,6 +2,7 @@
 use Rattle.std.proofs.Common.{◌≡◌, ℕ, suc, zero, ◌<◌, ◌≤◌, List, [], ◌∷◌, ◌++◌, length, map, take, slice_index_or, refl, sym, ap, ◌∙◌, subst, arith, Bool, true, false, not, cond, nat_le, IfOk, Ok, Err, Some}
 use Rattle.std.proofs.lemmas.Option.{none-some}
 use Rattle.std.specs.declared.result.Result.{Result}
+use Rattle.std.specs.Prelude.{Box}
 use Rattle.std.proofs.lemmas.List.{append-nil, append_assoc, map-append, take_all}
 use Rattle.std.proofs.Math.Seq.{take-suc}
 use Rattle.lock_model.specs.declared.instance.Instance.{Instance}
@@ -75,16 +76,16 @@ own_still old b cs c is own = subst (λ (x : Book). IsOwnCut x.case.instance c) 
 pub opened_ready : (case : Case) (plan : Plan) (cuts : List Cut) (cost : ℕ) (b : Book) → cost_of case.instance plan ≤ cost → b ≡ opened_with case plan cuts → IsReady case cost b
 opened_ready case plan cuts cost b costs is = subst (IsReady case cost) (sym is) (record { case_is = refl; opening = costs; free = record { none = (free case plan).none }; running = record { running = refl } })
 
-pub opened_ready_ok : {E : Type 0} (case : Case) (plan : Plan) (cuts : List Cut) (cost : ℕ) (r : Result Book E) → cost_of case.instance plan ≤ cost → IfOk r (λ b. b ≡ opened_with case plan cuts) → IfOk r (IsReady case cost)
-opened_ready_ok case plan cuts cost (Ok b) costs is = opened_ready case plan cuts cost b costs is
+pub opened_ready_ok : {E Z : Type 0} (case : Case) (plan : Plan) (cuts : List Cut) (cost : ℕ) (r : Result (Box Book Z) E) → cost_of case.instance plan ≤ cost → IfOk r (λ b. b.value ≡ opened_with case plan cuts) → IfOk r (λ b. IsReady case cost b.value)
+opened_ready_ok case plan cuts cost (Ok b) costs is = opened_ready case plan cuts cost b.value costs is
 opened_ready_ok case plan cuts cost (Err e) costs is = tt
 
 -- the end is as good with a higher limit
 pub ends_within : (low high : ℕ) (b : Book) → low ≤ high → EndsWell low b → EndsWell high b
 ends_within low high b less ends = record { free = ends.free; opening = let most = ends.opening in omega (arith, most, less); parked = ends.parked; left = ends.left }
 
-pub ends_within_ok : {E : Type 0} (low high : ℕ) (r : Result Solved E) → low ≤ high → IfOk r (λ solved. EndsWell low solved.book) → IfOk r (λ solved. EndsWell high solved.book)
-ends_within_ok low high (Ok solved) less ends = ends_within low high solved.book less ends
+pub ends_within_ok : {E : Type 0} (low high : ℕ) (r : Result Solved E) → low ≤ high → IfOk r (λ solved. EndsWell low solved.book.value) → IfOk r (λ solved. EndsWell high solved.book.value)
+ends_within_ok low high (Ok solved) less ends = ends_within low high solved.book.value less ends
 ends_within_ok low high (Err e) less ends = tt
 
 -- where each ship fits some chamber, none is refused

@@ -1,6 +1,7 @@
 -- The driver may take a book on still.
 use Rattle.std.proofs.Common.{◌≡◌, ℕ, ◌≤◌, List, sym, ap, ◌∙◌, subst, arith, IfOk, Ok, Err, false, slice_index_or}
 use Rattle.std.specs.declared.result.Result.{Result}
+use Rattle.std.specs.Prelude.{Box}
 use Rattle.lock_model.specs.declared.limits.TheConstants.{WORKERS}
 use Rattle.lock_model.specs.declared.plan.Plan.{Plan}
 use Rattle.lock_rules.specs.Plan.{IsLegal, cost_of}
@@ -39,8 +40,8 @@ ready-within case low high b less ready = record {
 }
 
 -- a book that costs no more than one that the driver may take
-pub ready_within_ok : {E : Type 0} (case : Case) (low high : ℕ) (b : Book) (r : Result Book E) → IsReady case high b → low ≡ opening_cost b → IfOk r (IsReady case low) → IfOk r (IsReady case high)
-ready_within_ok case low high b (Ok new) ready same is = ready-within case low high new (let most = ready.opening in omega (arith, most, same)) is
+pub ready_within_ok : {E Z : Type 0} (case : Case) (low high : ℕ) (b : Book) (r : Result (Box Book Z) E) → IsReady case high b → low ≡ opening_cost b → IfOk r (λ n. IsReady case low n.value) → IfOk r (λ n. IsReady case high n.value)
+ready_within_ok case low high b (Ok new) ready same is = ready-within case low high new.value (let most = ready.opening in omega (arith, most, same)) is
 ready_within_ok case low high b (Err e) ready same is = tt
 
 -- the best plan is one of the case, and costs at most what the opening plan does

@@ -79,21 +79,21 @@ fn post_cuts(book: &mut Book, other: &Book)
 
 // The book of the same case with the best plan that was found and the cuts, none of whose nodes is
 // used yet; the book itself where there is no memory for that.
-fn begun_again(alloc: Global, book: Book) -> Book
-    requires free { HoldsNothing book }
-    requires running { IsRunning book }
-    ensures case { result.case ≡ book.case }
-    ensures opening { opening_cost result ≤ opening_cost book }
-    ensures free { HoldsNothing result }
-    ensures running { IsRunning result }
+fn begun_again(alloc: Global, book: Box<Book>) -> Box<Book>
+    requires free { HoldsNothing book.value }
+    requires running { IsRunning book.value }
+    ensures case { result.value.case ≡ book.value.case }
+    ensures opening { opening_cost result.value ≤ opening_cost book.value }
+    ensures free { HoldsNothing result.value }
+    ensures running { IsRunning result.value }
 {
-    let Ok(mut fresh) = opened(alloc, book.case(), book.best().copy(), &CutList::new(alloc)) else {
+    let Ok(mut fresh) = opened(alloc, book.case(), book.best(), &CutList::new(alloc)) else {
         return book;
     };
     if fresh.opening_cost() > book.opening_cost() {
         return book;
     }
-    post_cuts(&mut fresh, &book);
+    post_cuts(&mut *fresh, &*book);
     fresh
 }
 
@@ -148,12 +148,12 @@ fn board_of(alloc: Global, pricing: Option<Pricing>) -> Option<Board> {
 #[tactic(auto, using(crate::proofs::ReadyLemmas::best_legal, crate::proofs::ReadyLemmas::best_within, crate::proofs::ReadyLemmas::ready_within_ok))]
 fn priced_by_all<R: Threads + Wait + Sync, G: Gate + Sync>(
     lent: &Lent<'_, R, G>,
-    book: Book,
+    book: Box<Book>,
     pricing: Option<Pricing>,
     cost: u64,
-) -> Result<Book, NoMemory>
-    requires ready { IsReady lent.now.case.now cost book }
-    ensures { IfOk result (IsReady lent.now.case.now cost) }
+) -> Result<Box<Book>, NoMemory>
+    requires ready { IsReady lent.now.case.now cost book.value }
+    ensures { IfOk result (λ end. IsReady lent.now.case.now cost end.value) }
 {
     book.keeps();
     let opening = book.opening_cost();
@@ -161,7 +161,7 @@ fn priced_by_all<R: Threads + Wait + Sync, G: Gate + Sync>(
     let board = board_of(lent.alloc, pricing);
     let left = worked(lent, book, board.as_ref())?;
     let none = CutList::new(lent.alloc);
-    settled(lent.alloc, left, lent.case, opening, best, &none)
+    settled(lent.alloc, left, lent.case, opening, &best, &none)
 }
 
 // Searches a book with prices: the root on this thread, and then, where several workers serve, all else
@@ -170,24 +170,24 @@ fn priced_by_all<R: Threads + Wait + Sync, G: Gate + Sync>(
 fn priced<R: Threads + Wait + Sync, G: Gate + Sync>(
     lent: &Lent<'_, R, G>,
     driver: &mut Driver<'_>,
-    mut book: Book,
+    mut book: Box<Book>,
     cost: u64,
-) -> Result<Book, NoMemory>
-    requires ready { IsReady lent.now.case.now cost book }
-    requires own { IsOwnSearch book driver.old.search }
-    ensures ready { IfOk result (IsReady lent.now.case.now cost) }
+) -> Result<Box<Book>, NoMemory>
+    requires ready { IsReady lent.now.case.now cost book.value }
+    requires own { IsOwnSearch book.value driver.old.search }
+    ensures ready { IfOk result (λ end. IsReady lent.now.case.now cost end.value) }
     ensures search { driver.new.search ≡ driver.old.search }
 {
     let first = first_node(lent.case, lent.workers);
-    driver.pricing = first_pricing(lent.alloc, &book, first);
-    let is_done = drive_some(driver, &mut book, 1)?;
+    driver.pricing = first_pricing(lent.alloc, &*book, first);
+    let is_done = drive_some(driver, &mut *book, 1)?;
     driver.keep_root();
     if is_done || lent.workers == 1 {
         return Ok(book);
     }
     let pricing = mem::replace(&mut driver.pricing, None);
     let book = priced_by_all(lent, book, pricing, cost)?;
-    driver.pricing = first_pricing(lent.alloc, &book, first);
+    driver.pricing = first_pricing(lent.alloc, &*book, first);
     Ok(book)
 }
 
@@ -197,15 +197,15 @@ fn priced<R: Threads + Wait + Sync, G: Gate + Sync>(
 fn begun<R: Threads + Wait + Sync, G: Gate + Sync>(
     lent: &Lent<'_, R, G>,
     driver: &mut Driver<'_>,
-    mut book: Book,
+    mut book: Box<Book>,
     cost: u64,
-) -> Result<Book, NoMemory>
-    requires ready { IsReady lent.now.case.now cost book }
-    requires own { IsOwnSearch book driver.old.search }
-    ensures ready { IfOk result (IsReady lent.now.case.now cost) }
+) -> Result<Box<Book>, NoMemory>
+    requires ready { IsReady lent.now.case.now cost book.value }
+    requires own { IsOwnSearch book.value driver.old.search }
+    ensures ready { IfOk result (λ end. IsReady lent.now.case.now cost end.value) }
     ensures search { driver.new.search ≡ driver.old.search }
 {
-    if drive_some(driver, &mut book, first_nodes(lent.case))? {
+    if drive_some(driver, &mut *book, first_nodes(lent.case))? {
         return Ok(book);
     }
     let again = begun_again(lent.alloc, book);
@@ -230,17 +230,17 @@ fn show_root(driver: &Driver<'_>, book: &mut Book, case: &Case)
 #[tactic(auto, using(crate::proofs::ShowingLemmas::shown_within))]
 pub(crate) fn driven<R: Threads + Wait + Sync, G: Gate + Sync>(
     lent: &Lent<'_, R, G>,
-    book: Book,
+    book: Box<Book>,
     cost: u64,
-) -> Result<Book, NoMemory>
-    requires ready { IsReady lent.now.case.now cost book }
-    ensures case { IfOk result (λ end. end.case ≡ lent.now.case.now) }
-    ensures well { IfOk result (EndsWell cost) }
+) -> Result<Box<Book>, NoMemory>
+    requires ready { IsReady lent.now.case.now cost book.value }
+    ensures case { IfOk result (λ end. end.value.case ≡ lent.now.case.now) }
+    ensures well { IfOk result (λ end. EndsWell cost end.value) }
 {
     let case = lent.case;
     let mut driver = Driver::new(lent.alloc, Search::new(&case.instance, case.turns));
     let mut book = begun(lent, &mut driver, book, cost)?;
-    finish(&mut driver, &mut book)?;
-    show_root(&driver, &mut book, case);
+    finish(&mut driver, &mut *book)?;
+    show_root(&driver, &mut *book, case);
     Ok(book)
 }

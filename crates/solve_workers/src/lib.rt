@@ -13,19 +13,20 @@
 //! - Workers: `crew` deals out what each owns and gathers it again, `running` starts them in threads,
 //!   or runs one on the caller's where none can be made, and waits for all. `search_worker` is the
 //!   work of one.
-//! - `drive` works on a book as the driver, whose number is that behind the workers', until nothing is open or the budget of nodes is spent, and
-//!   then closes the parked slots whose bound is at least the best cost: the book ends well. All that
-//!   it does to the book is a list of events of the driver, also where memory runs out. For each node
-//!   `held` takes it, `working` asks `node_work` what becomes of it, and `ending` makes it so. One that
-//!   would be split is priced first, once there are prices (`pricing`): that is `price` of `price_search`, at
-//!   the desk that the book in the driver's hand is (`offering`).
+//! - `drive` works on a book as the driver, whose number is that behind the workers', until nothing is
+//!   open or the budget of nodes is spent, and then closes the parked slots whose bound is at least the
+//!   best cost: the book ends well. All that it does to the book is a list of events of the driver, also
+//!   where memory runs out. For each node `held` takes it, `working` asks `node_work` what becomes of
+//!   it, and `ending` makes it so. One that would be split is priced first, once there are prices
+//!   (`pricing`): that is `price` of `price_search`, at the desk that the book in the driver's hand is
+//!   (`offering`).
 //! - At the end the caller shows of the slots that are left what the root reaches by its prices (`lows`).
 //!
 //! Definitions: `book_rules` says how a search ends well (`specs/Ends`) and what events change;
 //! here `specs/Driving` (events of the driver), `Holding` and `Holds` (what it holds, and what it
-//! has tidied), `Offering` (what it makes of a book while prices are asked), `Closable` (how a held node may end), `Opening` (a book that was just opened),
-//! `Settling` (what the caller tests, and a book that is freed), `Showing` (a book of which costs are
-//! shown), `Told` (what replies tell).
+//! has tidied), `Offering` (what it makes of a book while prices are asked), `Closable` (how a held
+//! node may end), `Opening` (a book that was just opened), `Settling` (what the caller tests, and a
+//! book that is freed), `Showing` (a book of which costs are shown), `Told` (what replies tell).
 #![tactic(auto)]
 
 mod comparing;

@@ -1,6 +1,7 @@
 //! The book that a search begins with.
 ghost use Rattle.std.specs.Prelude.{◌≡◌, ◌∷◌, [], All, IfOk, OnOk};
 ghost use Rattle.lock_rules.specs.Plan.{IsLegal};
+ghost use Rattle.book_rules.specs.Book.{opening_book};
 ghost use Rattle.book_rules.specs.Cover.{IsOwnCut};
 ghost use Rattle.solve_workers.specs.Opening.{with_cuts, opened_with};
 
@@ -35,19 +36,33 @@ fn post_all(book: &mut Book, cuts: &CutList) -> Result<(), NoMemory>
     Ok(())
 }
 
-/// The book of a case and a legal plan in which the given cuts, which are of the case, are posted.
+// The book of a case and a legal plan, in a box. It takes much stack, which is free again when the
+// search begins.
+#[inline(never)]
+fn boxed(alloc: Global, case: &Case, plan: &Plan) -> Result<Box<Book>, NoMemory>
+    requires { IsLegal case.now.instance plan.now }
+    ensures { IfOk result (λ book. book.value ≡ opening_book case.now plan.now) }
+{
+    match Box::new(alloc, open_book(alloc, case, plan.copy())?) {
+        Ok(book) => Ok(book),
+        Err(_) => Err(NoMemory),
+    }
+}
+
+/// The book of a case and a legal plan in which the given cuts, which are of the case, are posted. It is
+/// in a box, since a book is large, and each place that it is moved to would take as much of the stack.
 /// Refuses want of memory alone.
 pub(crate) fn opened(
     alloc: Global,
     case: &Case,
-    plan: Plan,
+    plan: &Plan,
     cuts: &CutList,
-) -> Result<Book, NoMemory>
-    requires legal { IsLegal case.now.instance plan }
+) -> Result<Box<Book>, NoMemory>
+    requires legal { IsLegal case.now.instance plan.now }
     requires own { All (IsOwnCut case.now.instance) cuts.now }
-    ensures { IfOk result (λ book. book ≡ opened_with case.now plan cuts.now) }
+    ensures { IfOk result (λ book. book.value ≡ opened_with case.now plan.now cuts.now) }
 {
-    let mut book = open_book(alloc, case, plan)?;
-    post_all(&mut book, cuts)?;
+    let mut book = boxed(alloc, case, plan)?;
+    post_all(&mut *book, cuts)?;
     Ok(book)
 }

@@ -121,10 +121,10 @@ fn searched_in<L: Ledger + Send + Sync, R: Threads + Wait + Sync, G: Gate + Sync
     lent: &Lent<'_, R, G>,
     board: Option<&Board>,
     blank: Blank,
-    book: Book,
+    book: Box<Book>,
     beside: Beside,
     rooms: Rooms<L>,
-) -> Book
+) -> Box<Book>
     requires name { blank.name ≡ L.name }
     requires parts { blank.parts ≡ L.parts }
     requires one_each { blank.parts ≡ lent.now.workers + 1 }
@@ -167,15 +167,15 @@ fn searched_in<L: Ledger + Send + Sync, R: Threads + Wait + Sync, G: Gate + Sync
 fn searched<L: Ledger + Send + Sync, R: Threads + Wait + Sync, G: Gate + Sync>(
     lent: &Lent<'_, R, G>,
     blank: Blank,
-    book: Book,
+    book: Box<Book>,
     board: Option<&Board>,
-) -> Result<Book, NoMemory>
+) -> Result<Box<Book>, NoMemory>
     requires name { blank.name ≡ L.name }
     requires parts { blank.parts ≡ L.parts }
     requires one_each { blank.parts ≡ lent.now.workers + 1 }
 {
     let rooms = Rooms::<L>::new(lent.alloc, lent.workers)?;
-    let beside = Beside::new(lent.rt, lent.alloc, &book, lent.workers + 1)?;
+    let beside = Beside::new(lent.rt, lent.alloc, &*book, lent.workers + 1)?;
     Ok(searched_in(lent, board, blank, book, beside, rooms))
 }
 
@@ -183,9 +183,9 @@ fn searched<L: Ledger + Send + Sync, R: Threads + Wait + Sync, G: Gate + Sync>(
 /// caller, who drives without a lock: no other thread is started for it.
 pub(crate) fn worked<R: Threads + Wait + Sync, G: Gate + Sync>(
     lent: &Lent<'_, R, G>,
-    book: Book,
+    book: Box<Book>,
     board: Option<&Board>,
-) -> Result<Book, NoMemory> {
+) -> Result<Box<Book>, NoMemory> {
     if lent.workers == 1 {
         return Ok(book);
     }

@@ -50,21 +50,21 @@ fn release_others(book: &mut Book)
 #[tactic(auto, using(crate::proofs::SettleLemmas::freed_ready, crate::proofs::OpeningLemmas::opened_ready_ok))]
 pub(crate) fn settled(
     alloc: Global,
-    mut book: Book,
+    mut book: Box<Book>,
     case: &Case,
     cost: u64,
-    plan: Plan,
+    plan: &Plan,
     cuts: &CutList,
-) -> Result<Book, NoMemory>
-    requires legal { IsLegal case.now.instance plan }
+) -> Result<Box<Book>, NoMemory>
+    requires legal { IsLegal case.now.instance plan.now }
     requires own { All (IsOwnCut case.now.instance) cuts.now }
-    requires cost { cost_of case.now.instance plan ≤ cost }
-    ensures ready { IfOk result (IsReady case.now cost) }
-    ensures ours { IsOurs case.now cost book → IfOk result (IsFreed book) }
-    ensures fresh { (IsOurs case.now cost book → ⊥) → IfOk result (λ fresh. fresh ≡ opened_with case.now plan cuts.now) }
+    requires cost { cost_of case.now.instance plan.now ≤ cost }
+    ensures ready { IfOk result (λ end. IsReady case.now cost end.value) }
+    ensures ours { IsOurs case.now cost book.value → IfOk result (λ end. IsFreed book.value end.value) }
+    ensures fresh { (IsOurs case.now cost book.value → ⊥) → IfOk result (λ fresh. fresh.value ≡ opened_with case.now plan.now cuts.now) }
 {
-    if is_ours(&book, case, cost) {
-        release_others(&mut book);
+    if is_ours(&*book, case, cost) {
+        release_others(&mut *book);
         Ok(book)
     } else {
         opened(alloc, case, plan, cuts)

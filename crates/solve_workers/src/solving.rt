@@ -24,15 +24,20 @@ use std::thread::Threads;
 #[derive(Drop)]
 pub struct Solved {
     /// The book at the end of the search.
-    pub book: Book,
+    pub book: Box<Book>,
 }
 
-// The plan that the search begins with. Each ship fits some chamber, so there is one.
-fn opening_plan(alloc: Global, case: &Case) -> Result<Plan, NoMemory>
-    ensures { IfOk result (IsAtMost case.now.instance (singles_of case.now.instance)) }
+// The plan that the search begins with, in a box, so that the stack on which it is made is free again
+// when the search begins. Each ship fits some chamber, so there is one.
+#[inline(never)]
+fn opening_plan(alloc: Global, case: &Case) -> Result<Box<Plan>, NoMemory>
+    ensures { IfOk result (λ plan. IsAtMost case.now.instance (singles_of case.now.instance) plan.value) }
 {
     match first_plan(alloc, &case.instance, case.turns) {
-        Ok(plan) => Ok(plan),
+        Ok(plan) => match Box::new(alloc, plan) {
+            Ok(plan) => Ok(plan),
+            Err(_) => Err(NoMemory),
+        },
         Err(FirstError::NoMemory) => Err(NoMemory),
         Err(FirstError::Unfit(_)) => unreachable!(),
     }
@@ -49,11 +54,11 @@ pub fn solve<R: Threads + Wait + Sync, G: Gate + Sync>(
 ) -> Result<Solved, NoMemory>
     requires some_workers { 1 ≤ workers }
     requires few_workers { workers ≤ WORKERS }
-    ensures case { IfOk result (λ solved. solved.book.case ≡ case.now) }
-    ensures well { IfOk result (λ solved. EndsWell (singles_of case.now.instance) solved.book) }
+    ensures case { IfOk result (λ solved. solved.book.value.case ≡ case.now) }
+    ensures well { IfOk result (λ solved. EndsWell (singles_of case.now.instance) solved.book.value) }
 {
     let plan = opening_plan(alloc, case)?;
-    solve_from(rt, alloc, case, plan, CutList::new(alloc), workers, gate)
+    solve_from(rt, alloc, case, &*plan, CutList::new(alloc), workers, gate)
 }
 
 /// Searches a case from a legal plan and cuts of its chambers and ships, which are posted first, with
@@ -68,19 +73,19 @@ pub fn solve_from<R: Threads + Wait + Sync, G: Gate + Sync>(
     rt: &R,
     alloc: Global,
     case: &Case,
-    plan: Plan,
+    plan: &Plan,
     cuts: CutList,
     workers: u8,
     gate: &G,
 ) -> Result<Solved, NoMemory>
     requires some_workers { 1 ≤ workers }
     requires few_workers { workers ≤ WORKERS }
-    requires legal { IsLegal case.now.instance plan }
+    requires legal { IsLegal case.now.instance plan.now }
     requires own { All (IsOwnCut case.now.instance) cuts }
-    ensures case { IfOk result (λ solved. solved.book.case ≡ case.now) }
-    ensures well { IfOk result (λ solved. EndsWell (cost_of case.now.instance plan) solved.book) }
+    ensures case { IfOk result (λ solved. solved.book.value.case ≡ case.now) }
+    ensures well { IfOk result (λ solved. EndsWell (cost_of case.now.instance plan.now) solved.book.value) }
 {
-    let first = opened(alloc, case, plan.copy(), &cuts)?;
+    let first = opened(alloc, case, plan, &cuts)?;
     let cost = first.opening_cost();
     let lent = Lent {
         rt,

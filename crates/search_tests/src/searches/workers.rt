@@ -48,11 +48,10 @@ fn searched_on<R: Threads + Wait + Sync>(
     rt: &R,
     alloc: Global,
     first: &Book,
-) -> Result<Book, NoMemory> {
+) -> Result<Box<Book>, NoMemory> {
     let cuts = first_cut(alloc, first)?;
     let case = one_node(first.case());
-    let plan = first.best().copy();
-    Ok(solve_from(rt, alloc, &case, plan, cuts, 1, &OpenGate)?.book)
+    Ok(solve_from(rt, alloc, &case, first.best(), cuts, 1, &OpenGate)?.book)
 }
 
 // A search that takes the root alone finds no cut itself.
@@ -60,7 +59,7 @@ fn searched_on<R: Threads + Wait + Sync>(
 fn a_search_keeps_the_cuts_that_it_is_given(rt: HostRuntime) -> Result<(), Fail> {
     let case = case_of(two_ships(232).ok_or("no instance")?, 3, 20000).ok_or("no case")?;
     let first = solve(&rt, rt.alloc(), &case, 1, &OpenGate)?.book;
-    let book = searched_on(&rt, rt.alloc(), &first)?;
+    let book = searched_on(&rt, rt.alloc(), &*first)?;
     assert!(rt; book.opening_cost() == first.best_cost());
     assert!(rt; book.cut(0).is_some() && book.cut(1).is_none());
     Ok(())

@@ -66,7 +66,7 @@ fn searched_by<L: Ledger, W: Wait, G: Gate>(
     let turns = book.case().turns;
     let pool = Pool::new(alloc)?;
     let (word, seat) = BoundTable::new(alloc, book.opening_cost(), 1)?;
-    let (book, mut shares) = share_book::<L>(blank, book, 1);
+    let (book, mut shares) = share_book::<L>(blank, Box::new(alloc, book)?, 1);
     let Some(hands) = hands_of(&mut shares, seat) else {
         return Err(Fail::from("no share"));
     };
@@ -84,7 +84,7 @@ fn searched_by<L: Ledger, W: Wait, G: Gate>(
     };
     let Hands { share, seat } = search(&post, 0, hands);
     shares.push(share);
-    Ok((book.into_book(shares), word.close(seat)))
+    Ok((Box::into_inner(book.into_book(shares)), word.close(seat)))
 }
 
 /// The book after one worker has searched it alone with what it is given, and the least cost that
