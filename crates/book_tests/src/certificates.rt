@@ -51,7 +51,7 @@ use Deed::*;
 fn keeps_cut_and_prices(alloc: Global, book: &mut Book) -> Result<bool, Fail> {
     Ok(
         book.post(row_cut(alloc, NARROW)?) == Reply::Posted(0)
-            && book.post_prices(both_prices(8500)?) == Reply::Priced(0),
+            && book.post_prices(&both_prices(8500)?) == Reply::Priced(0),
     )
 }
 

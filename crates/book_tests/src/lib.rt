@@ -1,9 +1,10 @@
 //! Tests of the books of a search: worked books of two ships, driven by hand.
 //!
 //! `books` tests the book itself (`book_core`), `shared_books` the book under its lock (`search_book`),
-//! `certificates` the certificate of a finished book (`book_certificate`), and `swept_roots` those whose
-//! root is closed by a sweep or left open, made by hand. A crate with tests is proved twice, so they
-//! stand in a crate of their own, which has no code but them.
+//! `certificates` the certificate of a finished book (`book_certificate`), `swept_roots` those whose root
+//! is closed by a sweep or left open, made by hand, and `triples` prices of triples as books keep them
+//! (`kept_prices`). A crate with tests is proved twice, so they stand in a crate of their own, which has
+//! no code but them.
 #![tactic(auto)]
 
 #[cfg(test)]
@@ -20,3 +21,5 @@ mod shared_books;
 mod spent_decks;
 #[cfg(test)]
 mod swept_roots;
+#[cfg(test)]
+mod triples;

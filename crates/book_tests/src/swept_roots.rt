@@ -4,6 +4,7 @@ use crate::fixture::{alone, narrow, one_after_the_other};
 use cert_check::{Answer, FailurePlace, Reason, check};
 use certificate_parts::{CertCut, CertCuts, Certificate, Ground, Mark, MarkList, PriceLists};
 use deck_cuts::{Quick, Refutation};
+use kept_prices::KeptPrices;
 use lock_model::{Chambers, Instance, Lockages, Plan, ShipList, Way};
 use price_terms::Prices;
 use std::alloc::Global;
@@ -34,7 +35,8 @@ fn both_cut(alloc: Global) -> Result<CertCuts, Fail> {
 // One list of prices.
 fn one_list(alloc: Global, prices: &[u32]) -> Result<PriceLists, Fail> {
     let mut lists = PriceLists::new(alloc);
-    lists.push(Prices::new(prices).ok_or("no prices")?)?;
+    let prices = Prices::new(prices).ok_or("no prices")?;
+    lists.push(KeptPrices::of(alloc, &prices)?)?;
     Ok(lists)
 }
 
@@ -132,8 +134,8 @@ fn an_open_root_names_prices_that_are_there(rt: HostRuntime) -> Result<(), Fail>
     Ok(())
 }
 
-// Three ships up that arrive ten minutes apart, and a chamber that takes one at a time.
-fn one_by_one() -> Result<Instance, Fail> {
+/// Three ships up that arrive ten minutes apart, and a chamber that takes one at a time.
+pub(crate) fn one_by_one() -> Result<Instance, Fail> {
     let mut only = chamber(b'c', 240);
     only.most = 1;
     let mut chambers = Chambers::new();

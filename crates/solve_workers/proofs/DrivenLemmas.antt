@@ -9,7 +9,7 @@ use Rattle.lock_rules.specs.Plan.{cost_of}
 use Rattle.closing_rules.specs.declared.grounds.Ground.{Ground}
 use Rattle.closing_rules.specs.declared.grounds.Ground.TheVariants as by
 use Rattle.book_rules.specs.declared.book.ShownLow.{ShownLow}
-use Rattle.book_rules.specs.Tests.{has_clash, is_own_cut}
+use Rattle.book_rules.specs.Tests.{has_clash, is_own_cut, has_shape}
 use Rattle.book_rules.specs.Book.{Book, Case, first_slot, has_slot, is_held, is_held_by, is_back, is_live, group_at, slot_at, best_cost}
 use Rattle.book_rules.specs.Cheap.{opening_cost}
 use Rattle.book_rules.specs.Events.{Event, Reply, IsOwed, take, split, close, post, post_prices, close_price, close_swept, show_low, park, replace, release}
@@ -77,7 +77,7 @@ module _ {Break : Type 0} (broken : Instance → Plan → Option Break) (b : Boo
       keep_or (not (is_held (slot_at b id).state)) (NotHeld id) (cond whole (b, Whole id) (Step.split_slot b id)) (keep_or whole (Whole id) (Step.split_slot b id) refl)
   ended-stays (close id why) is = keep_or (not (Step.may_close b id)) (NotHeld id) (Step.close_unless b id why (Step.refusal_of b id why)) (close-ended id why (Step.refusal_of b id why))
   ended-stays (post cut) is = keep_or (not (is_own_cut b.case.instance cut)) OtherDeck (Step.posted b cut) refl
-  ended-stays (post_prices prices) is = keep_or (not (nat_eq (length prices) (length b.case.instance.ships))) OtherPrices (Step.priced b prices) refl
+  ended-stays (post_prices prices) is = keep_or (not (has_shape b.case.instance prices)) OtherPrices (Step.priced b prices) refl
   ended-stays (close_price id number shown) is =
       let refusal = Step.price_refusal b id number shown (slice_get b.prices number) in
       keep_or (not (Step.may_close b id)) (NotHeld id) (Step.close_unless b id (by.Price number) refusal) (close-ended id (by.Price number) refusal)

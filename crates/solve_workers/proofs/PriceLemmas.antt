@@ -1,6 +1,7 @@
 -- What prices find, carried out while a slot is held.
-use Rattle.std.proofs.Common.{◌≡◌, ℕ, ◌<◌, List, length, refl, sym, ap, ◌∙◌, subst, Bool, true, false, not, cond, nat_eq, slice_get, slice_index_or}
+use Rattle.std.proofs.Common.{◌≡◌, ℕ, ◌<◌, length, refl, sym, ap, ◌∙◌, subst, Bool, true, false, not, cond, slice_get, slice_index_or}
 use Rattle.mooring_rules.specs.declared.breaks.BrokenPlan.{BrokenPlan}
+use Rattle.price_rules.specs.Prices.{PriceList}
 use Rattle.refute_rules.specs.Cuts.{Cut}
 use Rattle.std.specs.declared.option.Option.{Option}
 use Rattle.closing_rules.specs.declared.grounds.Ground.{Ground}
@@ -12,7 +13,7 @@ use Rattle.book_rules.specs.Events as machine
 use Rattle.book_rules.specs.Events.{Event, post, post_prices, close_price, close_swept}
 use Rattle.book_rules.specs.Shown.{Shown, Swept}
 use Rattle.book_rules.specs.Step
-use Rattle.book_rules.specs.Tests.{is_own_cut}
+use Rattle.book_rules.specs.Tests.{is_own_cut, has_shape}
 use Rattle.book_rules.proofs.ClosingLemmas.{MayRefuse, may-refuse_price, may-refuse_sweep}
 use Rattle.book_core.specs.declared.reply.Reply.{Reply}
 use Rattle.book_core.specs.Replies.{Answers, Does, Steps, Stays}
@@ -33,14 +34,14 @@ same-cond b false x y p q = q
 post-slots : (b : Book) (cut : Cut) → (Step.post_step {Break = BrokenPlan} b cut).0.slots ≡ b.slots
 post-slots b cut = same-cond b (not (is_own_cut b.case.instance cut)) (b, machine.OtherDeck) (Step.posted b cut) refl refl
 
-prices-slots : (b : Book) (prices : List ℕ) → (Step.post_prices_step {Break = BrokenPlan} b prices).0.slots ≡ b.slots
-prices-slots b prices = same-cond b (not (nat_eq (length prices) (length b.case.instance.ships))) (b, machine.OtherPrices) (Step.priced b prices) refl refl
+prices-slots : (b : Book) (prices : PriceList) → (Step.post_prices_step {Break = BrokenPlan} b prices).0.slots ≡ b.slots
+prices-slots b prices = same-cond b (not (has_shape b.case.instance prices)) (b, machine.OtherPrices) (Step.priced b prices) refl refl
 
 pub posted_slots : (b : Book) (cut : Cut) (r : Reply) (new : Book) → Does b (post cut) r new → new.slots ≡ b.slots
 posted_slots b cut r new (Stays wants) = ap (λ (x : Book). x.slots) wants.same
 posted_slots b cut r new (Steps answers) = ap (λ (o : Out). o.0.slots) (sym answers.same) ∙ post-slots b cut
 
-pub priced_slots : (b : Book) (prices : List ℕ) (r : Reply) (new : Book) → Does b (post_prices prices) r new → new.slots ≡ b.slots
+pub priced_slots : (b : Book) (prices : PriceList) (r : Reply) (new : Book) → Does b (post_prices prices) r new → new.slots ≡ b.slots
 priced_slots b prices r new (Stays wants) = ap (λ (x : Book). x.slots) wants.same
 priced_slots b prices r new (Steps answers) = ap (λ (o : Out). o.0.slots) (sym answers.same) ∙ prices-slots b prices
 

@@ -1,8 +1,9 @@
 -- A book of which costs are shown ends as well as before.
-use Rattle.std.proofs.Common.{◌≡◌, ℕ, ◌≤◌, ◌⊎◌, List, length, inl, inr, refl, sym, ap, ◌∙◌, subst, arith, Bool, true, false, not, cond, nat_eq, Some, None, slice_get}
+use Rattle.std.proofs.Common.{◌≡◌, ℕ, ◌≤◌, ◌⊎◌, inl, inr, refl, sym, ap, ◌∙◌, subst, arith, Bool, true, false, not, cond, Some, None, slice_get}
 use Rattle.std.specs.declared.option.Option.{Option}
 use Rattle.std.proofs.lemmas.List.{length-set}
 use Rattle.lock_rules.specs.Plan.{cost_of}
+use Rattle.price_rules.specs.Prices.{PriceList}
 use Rattle.book_rules.specs.declared.book.ShownLow.{ShownLow}
 use Rattle.book_rules.specs.declared.book.SlotState.{SlotState}
 use Rattle.book_rules.specs.declared.book.SlotState.TheVariants as slot
@@ -13,6 +14,7 @@ use Rattle.book_rules.specs.Events as machine
 use Rattle.book_rules.specs.Events.{show_low, post_prices}
 use Rattle.book_rules.specs.Shown.{Shown}
 use Rattle.book_rules.specs.Step
+use Rattle.book_rules.specs.Tests.{has_shape}
 use Rattle.book_rules.proofs.TurnLemmas.{low-at}
 use Rattle.book_core.specs.declared.reply.Reply.{Reply}
 use Rattle.book_core.specs.Replies.{Does, Steps, Stays}
@@ -67,11 +69,11 @@ module _ (b : Book) where
       (shown-cond (not (is_live (slot_at b id).state)) (b, machine.NotHeld id) (Step.show_unless b id low refusal) (shown_none b) (unless-only id low refusal))
 
   -- prices that are posted
-  pub prices_only : (prices : List ℕ) (r : Reply) (new : Book) → Does b (post_prices prices) r new → IsOnlyShown b new
+  pub prices_only : (prices : PriceList) (r : Reply) (new : Book) → Does b (post_prices prices) r new → IsOnlyShown b new
   prices_only prices r new (Stays wants) = subst (IsOnlyShown b) (sym wants.same) (shown_none b)
   prices_only prices r new (Steps answers) =
       subst (IsOnlyShown b) (ap (λ (o : Out). o.0) answers.same)
-      (shown-cond (not (nat_eq (length prices) (length b.case.instance.ships))) (b, machine.OtherPrices) (Step.priced b prices) (shown_none b)
+      (shown-cond (not (has_shape b.case.instance prices)) (b, machine.OtherPrices) (Step.priced b prices) (shown_none b)
       (record { case = refl; opening = refl; best = refl; used = refl; count = refl; states = λ id. refl; bounds = λ id. refl }))
 
 -- THE BOOK ENDS AS WELL AS BEFORE.

@@ -21,11 +21,11 @@ fn number_of(book: &mut Book, prices: &Prices) -> Option<u64>
 {
     let posted = book.prices();
     for number in 0..posted.len() {
-        if posted[number] == *prices {
+        if posted[number].equals(prices) {
             return Some(number as u64);
         }
     }
-    number_in(&book.post_prices(prices.copy()))
+    number_in(&book.post_prices(prices))
 }
 
 // Whether a slot is left open, held or parked, and its bound is below a cost, in minutes.

@@ -26,11 +26,12 @@ fn is_cut(cut: &Cut)
     let _ = &cut.chamber;
 }
 
-// That prices are few and small, as their type keeps.
+// That prices are few and small, and their triples in order, as their type keeps.
 fn are_prices(prices: &Prices)
     ensures { ArePrices prices.now }
 {
     let _ = prices.as_slice();
+    let _ = prices.triples();
 }
 
 /// The number of prices that the book has kept.
@@ -147,7 +148,7 @@ impl Desk for DriversDesk<'_> {
     ) -> Result<Option<u64>, NoMemory> {
         book.keeps();
         are_prices(prices);
-        let reply = book.post_prices(prices.copy());
+        let reply = book.post_prices(prices);
         Ok(number_in(&reply))
     }
 

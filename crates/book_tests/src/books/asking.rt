@@ -47,7 +47,7 @@ pub(crate) fn reply_of(alloc: Global, book: &mut Book, ask: Ask) -> Result<Reply
             let hard = spent_both(alloc, book)?;
             book.park(id, chamber, place, &hard)
         }
-        Ask::Prices(price) => book.post_prices(both_prices(price)?),
+        Ask::Prices(price) => book.post_prices(&both_prices(price)?),
         Ask::CloseSwept(id, number, cost) => {
             let root = PricedRoot::new(alloc)?;
             book.close_swept(id, number, &root.swept(alloc, cost)?)

@@ -86,7 +86,7 @@ fn direct(alloc: Global, book: &mut Book, ask: Ask) -> Result<Reply, Fail> {
             book.split(id);
             book.take(0)
         }
-        Ask::Prices(price) => book.post_prices(both_prices(price)?),
+        Ask::Prices(price) => book.post_prices(&both_prices(price)?),
         Ask::ClosePriceAndTake(number) => closed_by_price(alloc, book, number)?,
         Ask::CloseSweptAndTake(number) => closed_by_sweep(alloc, book, number)?,
         Ask::GoAhead(way) => went(book, way),

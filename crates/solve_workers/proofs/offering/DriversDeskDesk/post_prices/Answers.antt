@@ -1,5 +1,3 @@
-use Rattle.std.proofs.Common.{sym, subst, List, ℕ}
-use Rattle.closing_rules.specs.ListedPrices.{ArePrices}
 use Rattle.book_rules.specs.Events.{post_prices}
 use Rattle.solve_workers.proofs.DeskLemmas.{stays_held}
 use Rattle.solve_workers.proofs.DrivenLemmas.{driven_does}
@@ -12,7 +10,6 @@ returns-clause-holds c =
     let new = c.post_prices-reply.new.self in
     let id = c.args._held.now.id in
     let node = c.args._held.now.node.now in
-    let prices = c.copy.result in
-    let good = subst (λ (xs : List ℕ). ArePrices xs) (sym c.copy.ensures) c.are_prices.ensures in
+    let prices = c.args.prices.now in
     stays_held b new c.args._held.now (still_holds b new id node (priced_slots b prices c.post_prices-reply.result new c.post_prices-reply.ensures))
-    (driven_does b (post_prices prices) c.post_prices-reply.result new c.keeps.ensures good tt c.post_prices-reply.ensures)
+    (driven_does b (post_prices prices) c.post_prices-reply.result new c.keeps.ensures c.are_prices.ensures tt c.post_prices-reply.ensures)
