@@ -51,8 +51,10 @@ explain_open() {
 }
 
 how_to_go_on() {
+  local bound=--nodes
+  [ -z "$seconds" ] || bound=--seconds
   case $1 in
-    "open nodes"*) echo "Give more --nodes, or keep the search with --keep and go on with resume" ;;
+    "open nodes"*) echo "Give more $bound, or keep the search with --keep and go on with resume" ;;
     "open turns"*) echo "Give more --turns: the named ships were too hard to place together" ;;
     *) echo "Go on with resume" ;;
   esac

@@ -1,68 +1,66 @@
-# `solve` and `resume` with --seconds: a search in parts, each of which goes on from the open dossier of the one before it. When the
-# time is over, the part that is at work is stopped, and the answer is that of the parts that ended.
-
-# the most steps of a search in all, and those with which `solve` begins anew once a plan is known: a search of more
-# steps takes more care of its root
-most_nodes=1000000
-first_nodes=1000
+# `solve` and `resume` with --seconds: runs of more and more steps, each from the start, until one ends the search or the time is
+# over. A run that is at work then is stopped, and the cheapest plan of the others is the answer.
 
 may_take_seconds() { takes_seconds "$command" && in_range "$seconds" 1 86400 && ! names_nodes; }
 
+# The steps of each run. A search of up to 1,000 steps goes without prices, so it is what lies beyond them that grows; `resume`
+# adds its steps to those that were made before.
+steps_of_runs() {
+  local before=1000 beyond
+  echo 1
+  if [ "$command" = resume ]; then before=0; else echo $before; fi
+  for ((beyond = 100; before + beyond < 1000000; beyond *= 4)); do echo $((before + beyond)); done
+  echo 1000000
+}
+
 # sets answer and status
 run_for_seconds() {
-  local until=$((SECONDS + seconds)) words=("${program_words[@]}") given=$input more=100 used=1 is_open=false
-  open=$room/open
-  keep_part 1
-  leave_unproved_run
-  if $is_open && [ "$command" = solve ] && time_is_left; then
-    used=$first_nodes
-    keep_part $first_nodes
-  fi
-  while $is_open && [ $used -lt $most_nodes ] && time_is_left; do
-    input=$open goes_on=false program_words=(resume "${words[@]:1}")
-    [ $((used + more)) -le $most_nodes ] || more=$((most_nodes - used))
-    keep_part $more
-    used=$((used + more)) more=$((4 * more - more / 4))
+  local until=$((SECONDS + seconds)) words=("${program_words[@]}") whole best= steps
+  keep_dossier || return
+  for steps in $(steps_of_runs); do
+    run_steps "$steps"
+    [ "$status" = 1 ] || break
+    keep_cheapest
+    time_is_left && ! is_out_of_turns || break
+    leave_unproved_run || break
   done
-  if [ -e "$open" ] && [ "$status" != 0 ]; then tell_open; fi
-  program_words=("${words[@]}") input=$given
+  if [ -n "$best" ] && [ "$status" != 0 ]; then answer=$best status=1; fi
+  program_words=("${words[@]}")
 }
 
-# Searches for so many steps. Where the search isn't over, what is known is kept, and is_open says so. A part that the time cut off
-# leaves what was known before it.
-keep_part() {
-  local part=("${program_words[@]}")
-  has_word --keep || part+=(--keep)
-  run_part "${part[@]}" --nodes "$1"
-  is_open=false
-  if [ "$status" = 1 ] && is_dossier; then mv -f "$answer" "$open" && is_open=true; fi
+# A dossier on standard input is read by each run.
+keep_dossier() {
+  [ -z "$input" ] && [ -z "$wrong" ] || return 0
+  input=$room/dossier
+  cat >"$input" || { say "write fault: $(temporary_folder) may be full, so the dossier can't be kept"; exit 5; }
 }
 
-# the first part has all the time that it takes, so that there is an answer
-run_part() {
-  local whole=("${run[@]}")
-  program_words=("$@")
-  if [ -e "$open" ]; then run=(timeout --foreground $((until - SECONDS)) "${run[@]}"); fi
+# The first run has all the time that it takes, so that there is an answer.
+run_steps() {
+  whole=("${run[@]}")
+  if [ -n "$best" ]; then run=(timeout --foreground $((until - SECONDS)) "${run[@]}"); fi
+  program_words=("${words[@]}" --nodes "$1")
   run_program
-  run=("${whole[@]}") program_words=("${words[@]}")
+  run=("${whole[@]}")
 }
 
 time_is_left() { [ $((until - SECONDS)) -ge 1 ]; }
 
-# The answer of a search that isn't over: the open dossier where it is to be kept, else the report.
-tell_open() {
-  input=$open goes_on=false
-  if has_word --keep; then
-    answer=$open status=1
-  else
-    program_words=(resume "${words[@]:1}" --nodes 1)
-    run_program
-  fi
+keep_cheapest() {
+  [ -z "$best" ] || [ "$(cost_in "$answer")" -le "$(cost_in "$best")" ] || return 0
+  best=$room/best
+  mv -f "$answer" "$best"
 }
 
-# The program that the kit's run has built does the later parts.
+# of a report or of a dossier
+cost_in() { sed -n -E '1s/.* cost ([0-9]+)$/\1/p; s/.*"cost":([0-9]+).*/\1/p' "$1"; }
+
+# then more steps are of no use
+is_out_of_turns() { [[ $(head -c 10 "$best" | tr -d '\0') == "open turns" ]]; }
+
+# The program that the kit's run has built makes the later runs.
 leave_unproved_run() {
   is_unproved_run || return 0
   kit_gave_answer || exit 70
-  if [ -x "$(kept_program "$sources")" ]; then run=("$(kept_program "$sources")"); else until=$SECONDS; fi
+  [ -x "$(kept_program "$sources")" ] && run=("$(kept_program "$sources")")
 }

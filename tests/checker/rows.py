@@ -412,7 +412,7 @@ LIMITED = [(FAR_APART, "", "", PRICE_LOW), (FAR_APART, PRICES, str([[1_000_000] 
 
 def priced_rows():
     """The rows of dossiers with prices that both checkers are held against: data, line, status, and whether it is open."""
-    for name in ("priced_dossiers.rows", "swept_dossiers.rows", "open_by_prices.rows"):
+    for name in ("priced_dossiers.rows", "swept_dossiers.rows", "open_by_prices.rows", "triple_dossiers.rows"):
         for _, words, data, asked in rows_of(ROWS / name, ("status", "line", "first")):
             if words[0] in (b"check", b"lower"):
                 yield data, (asked["line"][0], int(asked["status"][0])), words[0] == b"lower"
