@@ -191,7 +191,7 @@ pub(crate) fn search_best<R: Threads + Wait + Sync, G: Gate + Sync>(
     ensures { AnswersSearch (PrintsBest options.now.dossier) (PrintsLeft options.now.keep) (search_of case.now.nodes case.now.turns case.now.instance) result.status (bytes_in result.text) }
 {
     match solve(rt, alloc, case, options.workers, gate) {
-        Ok(solved) => best_answer(alloc, &solved.book, options.dossier, options.keep),
+        Ok(solved) => best_answer(alloc, &*solved.book, options.dossier, options.keep),
         Err(NoMemory) => no_memory(),
     }
 }
@@ -207,7 +207,7 @@ pub(crate) fn search_line<R: Threads + Wait + Sync, G: Gate + Sync>(
     ensures { AnswersSearch (PrintsOptimal verdict_line) (PrintsOpen verdict_line) (search_of case.now.nodes case.now.turns case.now.instance) result.status (bytes_in result.text) }
 {
     match solve(rt, alloc, case, 1, gate) {
-        Ok(solved) => line_answer(alloc, &solved.book),
+        Ok(solved) => line_answer(alloc, &*solved.book),
         Err(NoMemory) => no_memory(),
     }
 }
