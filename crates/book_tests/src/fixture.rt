@@ -92,19 +92,24 @@ pub(crate) fn one_each() -> Plan {
     first_and(alone(1, 1, 0))
 }
 
-/// Both ships from minute 0, side by side.
-pub(crate) fn both() -> Plan {
+/// The first two ships from minute 0, side by side.
+pub(crate) fn together() -> Lockage {
     let mut spots = Spots::new();
     spots.push(spot(0, Rank::Left));
     spots.push(spot(126, Rank::Right));
-    let mut lockages = Lockages::new();
-    lockages.push(Lockage {
+    Lockage {
         chamber: 0,
         way: Way::Up,
         ships: pair(0, 1),
         start: 0,
         spots,
-    });
+    }
+}
+
+/// Both ships so.
+pub(crate) fn both() -> Plan {
+    let mut lockages = Lockages::new();
+    lockages.push(together());
     Plan { lockages }
 }
 

@@ -14,6 +14,8 @@ mod certificates;
 #[cfg(test)]
 mod fixture;
 #[cfg(test)]
+mod priced_pairs;
+#[cfg(test)]
 mod priced_root;
 #[cfg(test)]
 mod shared_books;

@@ -40,8 +40,8 @@ fn one_list(alloc: Global, prices: &[u32]) -> Result<PriceLists, Fail> {
     Ok(lists)
 }
 
-// Some marks.
-fn marks_of(alloc: Global, marks: &[Mark]) -> Result<MarkList, Fail> {
+/// Some marks.
+pub(crate) fn marks_of(alloc: Global, marks: &[Mark]) -> Result<MarkList, Fail> {
     let mut list = MarkList::new(alloc);
     for &mark in marks {
         list.push(mark)?;
@@ -66,8 +66,8 @@ fn narrow_answer(
     Ok(check(alloc, &narrow()?, &certificate)?)
 }
 
-// That the check takes a certificate of this cost which leaves no node open.
-fn accepted(cost: u64) -> Answer {
+/// That the check takes a certificate of this cost which leaves no node open.
+pub(crate) fn accepted(cost: u64) -> Answer {
     Answer::Stands { low: cost, cost }
 }
 
