@@ -100,7 +100,15 @@ fn search_answer<R: Threads + Wait + Sync, G: Gate + Sync>(
         Ok(cuts) => cuts,
         Err(NoMemory) => return no_memory(),
     };
-    match solve_from(rt, alloc, case, &certificate.plan, cuts, options.workers, gate) {
+    match solve_from(
+        rt,
+        alloc,
+        case,
+        &certificate.plan,
+        cuts,
+        options.workers,
+        gate,
+    ) {
         Ok(solved) => best_answer(alloc, &*solved.book, options.dossier, options.keep),
         Err(NoMemory) => no_memory(),
     }
