@@ -1,5 +1,5 @@
 -- What a search that ended well shows, and what is answered to it.
-use Rattle.std.proofs.Common.{ℕ, Bool, true, false, ◌≡◌, ◌≢◌, ◌<◌, refl, List, length, sym, subst, inl, inr, All}
+use Rattle.std.proofs.Common.{ℕ, Bool, true, false, ◌≡◌, ◌≢◌, ◌<◌, refl, List, length, sym, subst, inl, inr, All, Result, Ok, Err, IfOk}
 use Rattle.std.proofs.lemmas.List.Elements.{All-contains}
 use Rattle.lock_model.specs.declared.instance.Instance.{Instance}
 use Rattle.lock_model.specs.declared.group.Group.{Group}
@@ -59,11 +59,16 @@ book_answers print b limit V status text sound well is shows shown =
     ended_answers print (search_in b limit) (book_ended b limit sound well) V status text (sym is) (book_ends b limit V is sound well) shows shown
 
 -- the dossier of an accepted certificate
-pub dossier_printed : (I : Instance) (C : Certificate) (text : List ℕ) → Accepts I C → IsWellFormed I C → text ≡ dossier form.Whole I C → Reads form.Whole text I C → PrintsDossier I text
+dossier_printed : (I : Instance) (C : Certificate) (text : List ℕ) → Accepts I C → IsWellFormed I C → text ≡ dossier form.Whole I C → Reads form.Whole text I C → PrintsDossier I text
 dossier_printed I C text accepts formed shown reads =
     record { certificate = C; formed = formed; accepts = accepts; cheapest = accepted-cheapest I C (laws I) accepts; shown = shown; reads = reads }
 
--- ---- what its status tells
+-- the same of a text that may be wanting, of an equal instance
+pub dossier_printed_ok : {T E : Type 0} (I J : Instance) (C : Certificate) (items : T → List ℕ) (r : Result T E) → J ≡ I → Accepts I C → IsWellFormed I C
+    → IfOk r (λ t. items t ≡ dossier form.Whole J C) → IfOk r (λ t. Reads form.Whole (items t) J C) → IfOk r (λ t. PrintsDossier I (items t))
+dossier_printed_ok I J C items (Ok t) same accepts formed shown reads =
+    dossier_printed I C (items t) accepts formed (subst (λ J. items t ≡ dossier form.Whole J C) same shown) (subst (λ J. Reads form.Whole (items t) J C) same reads)
+dossier_printed_ok I J C items (Err e) same accepts formed shown reads = tt
 
 -- ---- one answer for another
 

@@ -89,7 +89,6 @@ fn line_answer(alloc: Global, book: &Book) -> Answer
 }
 
 // The dossier of an accepted certificate of a search.
-#[tactic(auto, using(crate::proofs::EndLemmas::dossier_printed))]
 fn printed(alloc: Global, book: &Book, certificate: &Certificate) -> Result<Vec<u8>, NoMemory>
     requires accepts { Accepts book.now.case.instance certificate.now }
     requires formed { IsWellFormed book.now.case.instance certificate.now }
