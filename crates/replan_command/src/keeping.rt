@@ -138,8 +138,8 @@ fn search<R: Threads + Wait + Sync, G: Gate + Sync>(
 ) -> Result<Solved, NoMemory>
     requires fit { HasNoUnfit rest.now }
     requires numbers { AreReplanNumbers options.now }
-    ensures rest { IfOk result (λ solved. solved.book.case.instance ≡ rest.now) }
-    ensures searched { IfOk result (λ solved. HasSearched options.now solved.book) }
+    ensures rest { IfOk result (λ solved. solved.book.value.case.instance ≡ rest.now) }
+    ensures searched { IfOk result (λ solved. HasSearched options.now solved.book.value) }
 {
     let case = Case::new(rest.copy(), options.nodes, options.turns);
     solve(rt, alloc, &case, options.workers, gate)
@@ -147,7 +147,6 @@ fn search<R: Threads + Wait + Sync, G: Gate + Sync>(
 
 /// What is answered where a part is kept: the report of the kept plan where it serves all ships,
 /// else what a search of the rest shows.
-
 pub(crate) fn kept_answer<R: Threads + Wait + Sync, G: Gate + Sync>(
     rt: &R,
     alloc: Global,
@@ -166,7 +165,7 @@ pub(crate) fn kept_answer<R: Threads + Wait + Sync, G: Gate + Sync>(
         return all_kept_answer(alloc, instance, left, options);
     };
     match search(rt, alloc, rest, options, gate) {
-        Ok(solved) => found_answer(alloc, instance, left, &solved.book, options),
+        Ok(solved) => found_answer(alloc, instance, left, &*solved.book, options),
         Err(NoMemory) => no_memory(),
     }
 }

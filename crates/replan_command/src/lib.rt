@@ -6,8 +6,9 @@
 //! kept part, and of a day as it is lived can still be carried out, or with the dossier of the rest. A text goes
 //! with one status, and each other answer has its cause.
 //!
-//! Definitions: `specs/Options` (numbers in their ranges), `Rests` (the rest that is asked for), `Keeping` (what is printed where the part
-//! can be kept), `Replanning` (what is answered to bytes), `Ends` (how replanning may end).
+//! Definitions: `specs/Options` (numbers in their ranges), `Rests` (the rest that is asked for),
+//! `Keeping` (what is printed where the part can be kept), `Replanning` (what is answered to bytes),
+//! `Ends` (how replanning may end).
 #![tactic(auto)]
 
 mod keeping;
