@@ -35,6 +35,20 @@ fn check(
 // the sum there, and the greatest cost that is reached, if there is one.
 type Row = (&'static [u32], &'static [u32], u32, i64, Option<u64>);
 
+// These prices of ships, and this one of the triple of the first three.
+fn with_triple(ships: &[u32], price: u32) -> Option<Prices> {
+    let ships = Prices::new(ships)?;
+    if price == 0 {
+        return Some(ships);
+    }
+    ships.with_triples(&[Triple {
+        first: 0,
+        second: 1,
+        third: 2,
+        price,
+    }])
+}
+
 // Holds rows against the bound of an instance.
 fn check_all(
     rt: &impl Abort,
@@ -45,15 +59,7 @@ fn check_all(
 ) -> Result<(), Fail> {
     let mut kept = KeptLines::new(alloc);
     for &(path, ships, price, sum, greatest) in rows {
-        let ships = Prices::new(ships).ok_or("no prices")?;
-        let triple = [Triple {
-            first: 0,
-            second: 1,
-            third: 2,
-            price,
-        }];
-        let triples = if price > 0 { &triple[..] } else { &[] };
-        let prices = ships.with_triples(triples).ok_or("no triples")?;
+        let prices = with_triple(ships, price).ok_or("no prices")?;
         check(
             rt,
             &mut kept,
@@ -98,7 +104,7 @@ fn a_group_is_charged_for_a_triple_of_which_it_has_two_ships(rt: HostRuntime) ->
 }
 
 // The fourth ship shares no lockage. The best plan costs 250; by prices of ships alone 235 is the most that
-// the root reaches.
+// the root was seen to reach.
 const FOUR: &[Row] = &[
     (&[], &[12000, 12000, 12000, 8500], 0, 23500, Some(235)),
     (&[], &[14000, 14000, 14000, 9000], 0, 21500, Some(215)),
