@@ -102,7 +102,7 @@ check_seconds() {
     refuse "--seconds is for solve and resume, and not for ${command:-this}"
   elif ! in_range "$text" 1 86400; then
     refuse "--seconds takes a whole number from 1 to 86,400${text:+, and not \"$text\"}"
-  elif names_nodes; then
+  elif names_option --nodes; then
     refuse "--seconds and --nodes can't stand together"
   else
     refuse "--seconds may stand once"

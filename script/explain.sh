@@ -55,6 +55,7 @@ how_to_go_on() {
   [ -z "$seconds" ] || bound=--seconds
   case $1 in
     "open nodes"*) echo "Give more $bound, or keep the search with --keep and go on with resume" ;;
+    "open turns 200000"*) echo "The named ships were too hard to place together, by as many tries as may be asked for" ;;
     "open turns"*) echo "Give more --turns: the named ships were too hard to place together" ;;
     *) echo "Go on with resume" ;;
   esac

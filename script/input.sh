@@ -102,7 +102,7 @@ end_of_instance() { awk '{ sub(/\r$/, ""); sub(/#.*/, "") } NF == 1 && $1 == "en
 take_nodes() {
   local ships
   [ -n "$input" ] && [ -z "$wrong" ] && [[ " $(options_of "$command") " == *" --nodes "* ]] || return 0
-  [ -z "$seconds" ] && ! names_nodes && ! has_word -- || return 0
+  [ -z "$seconds" ] && ! names_option --nodes && ! has_word -- || return 0
   ships=$(ships_in "$input")
   if [ "$ships" -gt 48 ]; then
     program_words+=(--nodes 1500)
@@ -111,7 +111,14 @@ take_nodes() {
   fi
 }
 
-names_nodes() { [[ " ${program_words[*]} " == *" --nodes"[=\ ]* ]]; }
+# By the program's own number of tries some groups of six to eight small ships stay undecided, and searches open with them: where
+# none is given, a search gets as many as there may be, which are seldom used up.
+take_turns() {
+  [ -z "$wrong" ] && [[ " solve resume replan " == *" $command "* ]] || return 0
+  names_option --turns || has_word -- || program_words+=(--turns 200000)
+}
+
+names_option() { [[ " ${program_words[*]} " == *" $1"[=\ ]* ]]; }
 
 ships_in() { awk '{ sub(/\r$/, ""); sub(/#.*/, "") } $1 == "ship" { ships++ } NF == 1 && $1 == "end" { exit } END { print ships + 0 }' "$1"; }
 

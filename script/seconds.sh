@@ -1,7 +1,7 @@
 # `solve` and `resume` with --seconds: runs of more and more steps, each from the start, until one ends the search or the time is
 # over. A run that is at work then is stopped, and the cheapest plan of the others is the answer.
 
-may_take_seconds() { takes_seconds "$command" && in_range "$seconds" 1 86400 && ! names_nodes; }
+may_take_seconds() { takes_seconds "$command" && in_range "$seconds" 1 86400 && ! names_option --nodes; }
 
 # The steps of each run. A search of up to 1,000 steps goes without prices, so it is what lies beyond them that grows; `resume`
 # adds its steps to those that were made before.

@@ -284,13 +284,14 @@ stood_in() {
 }
 rows stood_in <<'ROWS'
 1 | open turns 20000 chamber main ships alva low brio low 5 cost 9 | this plan costs 9 and isn't proved cheapest; what is proved is that no plan costs less than 5. Give more --turns
+1 | open turns 200000 chamber main ships alva low brio low 5 cost 9 | this plan costs 9 and isn't proved cheapest; what is proved is that no plan costs less than 5. The named ships were too hard to place together, by as many tries
 4 | read fault | read fault: evening.lock could not be read
 5 | none | write fault: not all of the answer
 6 | no memory | no memory: this machine has too little free memory
 137 | none | the program ended with status 137
 ROWS
 
-# How many steps the search gets where none are given: another stand-in says its words.
+# How many steps and tries the search gets where none are given: another stand-in says its words.
 printf '#!/usr/bin/env bash\necho "$*"\n' >"$room/echo_words"
 chmod +x "$room/echo_words"
 sed 's/^glock 2/glock 3/; /^end/d' "$room/day-40.lock" >"$room/day-50.lock"
@@ -301,12 +302,13 @@ echoes() {
   check "the words of: $1" [ "$out" = "$2" ]
 }
 rows echoes <<'ROWS'
-solve evening.lock | solve
-solve day-40.lock | solve --nodes 4000
-solve day-50.lock --workers 1 | solve --workers 1 --nodes 1500
-solve day-50.lock --nodes=7 | solve --nodes=7
-solve --nodes 7 day-40.lock | solve --nodes 7
-replan day-40.lock evening.plan --from 3 | replan --from 3 --nodes 4000
+solve evening.lock | solve --turns 200000
+solve day-40.lock | solve --nodes 4000 --turns 200000
+solve day-50.lock --workers 1 | solve --workers 1 --nodes 1500 --turns 200000
+solve day-50.lock --nodes=7 --turns=20 | solve --nodes=7 --turns=20
+solve --nodes 7 day-40.lock --turns 20 | solve --nodes 7 --turns 20
+replan day-40.lock evening.plan --from 3 | replan --from 3 --nodes 4000 --turns 200000
+trial | trial
 judge day-40.lock evening.plan | judge
 ROWS
 
