@@ -60,7 +60,7 @@ IsMarkTree I Ends (suc lacking) k lines marks rest =
 abbrev pub IsCertTree : Instance → Certificate → Type 0
 IsCertTree I C = IsMarkTree I (EndsNode I C.cost C.cuts C.prices) (length I.ships) 0 root_lines C.tree []
 
--- The plan is legal and has the cost, each cut is proved, each prices are one for each ship, and the marks are one certificate tree.
+-- The plan is legal and has the cost, each cut is proved, each prices are one for each ship and of triples of these, and the marks are one certificate tree.
 pub record Stands (I : Instance) (C : Certificate) : Type 0 where
   pub legal : IsLegal I C.plan
   pub cost : cost_of I C.plan ≡ C.cost

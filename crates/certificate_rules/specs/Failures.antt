@@ -71,7 +71,7 @@ pub record CutFails (I : Instance) (cuts : List CertCut) (c : ℕ) (r : Reason) 
   pub before : All (IsProved I) (take c cuts)
   pub unproved : ((IsShaped I cut → ⊥) × (r ≡ reason.CutShape)) ⊎ (IsShaped I cut × (IsProved I cut → ⊥) × (r ≡ reason.CutUnproved))
 
--- prices number v are the first that aren't one for each ship
+-- prices number v are the first that aren't one for each ship and of triples of these
 pub record PricesFail (I : Instance) (prices : List PriceList) (v : ℕ) (r : Reason) : Type 0 where
   pub own : PriceList
   pub known : v < length prices

@@ -7,7 +7,7 @@ ghost use Rattle.closing_rules.specs.ListedPrices.{ArePrices, same_triple, same_
 use lock_model::SHIPS;
 use no_memory::NoMemory;
 use price_rules::Triple;
-use price_terms::Prices;
+use price_terms::{Prices, are_among};
 use std::alloc::Global;
 use std::marker::Model;
 
@@ -35,18 +35,6 @@ fn same_triples(some: &[Triple], others: &[Triple]) -> bool
     ensures { result ≡ pointwise same_triple some.now others.now }
 {
     some == others
-}
-
-// Whether all triples are of so many ships.
-fn are_among(triples: &[Triple], ships: usize) -> bool
-    ensures { IsTrue result ↔ All (λ t. t.third < ships) triples.now }
-{
-    for triple in triples {
-        if triple.third as usize >= ships {
-            return false;
-        }
-    }
-    true
 }
 
 // Prices of ships, without triples.

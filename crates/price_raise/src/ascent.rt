@@ -1,5 +1,5 @@
 //! The steps of an ascent.
-ghost use Rattle.std.specs.Prelude.{◌≡◌, ◌+◌, ◌<◌, ◌≤◌, ◌<ℤ◌, pos, length};
+ghost use Rattle.std.specs.Prelude.{◌≡◌, ◌+◌, ◌<◌, ◌≤◌, ◌<ℤ◌, pos, length, if◌then◌else◌};
 ghost use Rattle.std.specs.Bool.{OnTrue, OnFalse};
 ghost use Rattle.price_raise.specs.Raising.{IsWeighed};
 
@@ -181,15 +181,37 @@ impl Ascent {
         gained.saturating_mul(self.pace.spans as i64) < gap_to(goal, self.best_sum)
     }
 
+    // Counts a step towards this goal; whether there are none left, or the goal is out of sight.
+    fn is_over(&mut self, goal: u64) -> bool
+        ensures tried { self.new.tried ≡ self.old.tried }
+        ensures best { self.new.best ≡ self.old.best }
+        ensures best_sum { self.new.best_sum ≡ self.old.best_sum }
+        ensures fewer { OnFalse result (self.new.pace.steps + 1 ≡ self.old.pace.steps) }
+    {
+        if self.is_hopeless(goal) || self.pace.steps == 0 {
+            return true;
+        }
+        self.pace.steps -= 1;
+        false
+    }
+
     /// Raises the prices by what came of those that were tried: the sum of their least lines and the
     /// prices, in hundredths of a minute, and how often missing ships stand in the lines. The goal is a
     /// cost in minutes. The better ones are kept. Whether there are other prices to try: there are none
     /// after as many steps as the pace allows, where each missing ship stands in the lines once, or where
-    /// the goal is out of sight.
-    pub fn raise(&mut self, missing: &[u8], stands: &Stands, sum: i64, goal: u64) -> bool
+    /// the goal is out of sight. A step whose lines gave new cuts doesn't count: the sum says less of the
+    /// prices then, which may reach more with the cuts.
+    pub fn raise(
+        &mut self,
+        missing: &[u8],
+        stands: &Stands,
+        sum: i64,
+        goal: u64,
+        is_cut: bool,
+    ) -> bool
         ensures weighed { IsWeighed self.old sum self.new }
         ensures shape { length self.new.tried.ships ≡ length self.old.tried.ships }
-        ensures fewer { OnTrue result (self.new.pace.steps + 1 ≡ self.old.pace.steps) }
+        ensures fewer { OnTrue result (self.new.pace.steps + (if is_cut then 0 else 1) ≡ self.old.pace.steps) }
         ensures same { OnFalse result (self.new.tried ≡ self.old.tried) }
     {
         self.weigh(sum);
@@ -197,11 +219,9 @@ impl Ascent {
         turn(&mut self.direction, missing, stands, self.pace.kept);
         self.triples.turn(stands, self.pace.kept);
         let norm = self.triples.with_squares(norm_of(&self.direction));
-        let hopeless = self.is_hopeless(goal);
-        if hopeless || self.pace.steps == 0 || norm <= 0 {
+        if norm <= 0 || !is_cut && self.is_over(goal) {
             return false;
         }
-        self.pace.steps -= 1;
         let reach = self
             .stride
             .saturating_mul(gap_to(goal, sum))

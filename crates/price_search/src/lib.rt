@@ -9,19 +9,21 @@
 //! `price` makes the rounds of a node in hand, and carries out what they find: it posts the new cuts, gives
 //! the plan to the book, and closes the node where prices reach the best cost. Where they don't at the root,
 //! it sweeps costs from what they reach up to the best cost: that closes the root too, or an uncut plan
-//! is found that costs less, whose groups are placed. Few labels are made first. If they don't close the root,
-//! some triples of ships get prices, and another ascent begins from the best prices so far, up to
-//! three times; then many labels are made. Triples are raised at the root alone: nodes below it keep them at
-//! the prices that they have there. It reaches the book through
-//! a `Desk`. A driver's is the book in its hand, a worker's a book that several share; each says by its ghost
-//! members what holds of a hand while the slot is held, and once it is closed.
+//! is found that costs less, whose groups are placed. Few labels are made first. If they don't close the
+//! root, some triples of ships get prices, and another ascent begins from the best prices so far, up to
+//! three times; then many labels are made. Triples are raised at the root alone: nodes below it keep them
+//! at the prices that they have there. It reaches the book through a `Desk`. A driver's is the book in its
+//! hand, a worker's a book that several share; each says by its ghost members what holds of a hand while
+//! the slot is held, and once it is closed.
 //!
 //! Nothing is claimed of prices: what a node reaches by them is shown to who closes it (`Pricing::show`).
-//! So a round promises no more than that its parts are of their types, and that
-//! a search comes to an end: all rounds together are limited.
+//! So a round promises no more than that its parts are of their types, and that a search comes to an end:
+//! all rounds together are limited.
 //!
-//! - `pricing`: what is kept, `offers`: what nodes leave to those below them. `round`: one round. `placing`: groups of loose lines and of uncut plans, placed.
-//! - `carrying`: a node's rounds. `ending`: what comes after an ascent. `sweeping`: the root, swept. `found`: what either finds, carried out. `desk`: where.
+//! - `pricing`: what is kept, `offers`: what nodes leave to those below them. `round`: one round.
+//!   `placing`: groups of loose lines and of uncut plans, placed.
+//! - `carrying`: a node's rounds. `ending`: what comes after an ascent. `sweeping`: the root, swept.
+//!   `found`: what either finds, carried out. `desk`: where.
 //!
 //! Definitions: `specs/Serving` says where rounds may be made, `Showing` what is shown of a node, and
 //! `Holding` what becomes of a slot that is held.

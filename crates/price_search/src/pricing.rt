@@ -16,7 +16,7 @@ use price_terms::{ChamberCut, Prices, Shown};
 use std::alloc::Global;
 use sweep::{SweepAsked, SweepLimits, SweepOutcome, sweep};
 
-// The most rounds in a search, and the most at the first node that prices can serve and at any other.
+// The most rounds in a search.
 const MOST_ROUNDS: u32 = 10_000;
 // The most rounds that are tried at a node; the pricing ends them before.
 pub(crate) const MOST_AT_A_NODE: u32 = 2_000;
@@ -261,8 +261,7 @@ impl Pricing {
     }
 
     /// Begins a further ascent at the root, from its best prices and with more triples; whether there are
-    /// any. It isn't the first node any more then: groups of lines aren't placed again, and a plan is made
-    /// in each round, which was measured to find better plans sooner.
+    /// any. A plan is made in each of its rounds.
     pub(crate) fn ascend_again(&mut self) -> bool {
         self.ascents = self.ascents.saturating_sub(1);
         self.ascent.widen(MORE_PACE)

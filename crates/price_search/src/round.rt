@@ -120,9 +120,9 @@ fn place_groups<K: KnownCuts>(
 }
 
 impl Pricing {
-    // Goes on from least lines that don't reach the best cost: at the first node their groups are
-    // placed. Then the prices are raised; where they can't be, a plan is tried, since each missing ship
-    // may stand in the lines once.
+    // Goes on from least lines that don't reach the best cost: at the root, and at the first node, their
+    // groups are placed. Then the prices are raised; where they can't be, a plan is tried, since each
+    // missing ship may stand in the lines once.
     fn go_on<K: KnownCuts>(
         &mut self,
         alloc: Global,
@@ -132,15 +132,16 @@ impl Pricing {
     ) -> Result<Round, NoMemory> {
         let Search { instance, .. } = asked.search;
         let mut placer = Placer::new(alloc, asked, memory);
-        if self.is_first {
+        if self.is_first || asked.node.depth() == 0 {
             place_groups(instance, lines, &mut placer)?;
         }
+        let is_cut = !placer.found.is_empty();
         let near = self.is_near_time();
         let order = arrival_order(instance);
         let missing = &order.as_slice()[asked.node.depth() as usize..];
         let again = self
             .ascent
-            .raise(missing, &stands_in(lines), lines.sum, asked.best);
+            .raise(missing, &stands_in(lines), lines.sum, asked.best, is_cut);
         let plan = if near || !again {
             near_plan(alloc, instance, lines, asked.best, &mut placer)?
         } else {

@@ -1,7 +1,7 @@
 //! The least worth of a chamber's loose lines, by the table of its states.
 //!
-//! `least_line` gives a loose line with the least of `100 * flow - paid` over all loose lines of a
-//! chamber, exactly, or says that there is none. The states of the chamber that can be reached are worked
+//! `least_line` gives a loose line with the least of `100 * flow + charged - paid` over all loose lines of
+//! a chamber, exactly, or says that there is none. The states of the chamber that can be reached are worked
 //! out with their values remembered, up to the horizon, the minute from which on missing ships may be
 //! left out of a line. `EndValues` gives the least worth of ways to go on, exactly too, of a chamber
 //! without a line from any minute on.

@@ -62,8 +62,8 @@ pub(crate) fn successor_lists_for(
     successor_lists_of(alloc, case, &successors, &late_lists)
 }
 
-/// A loose line of the chamber with the least of 100 times the flow time minus what is paid, over all
-/// its loose lines; None where there is no loose line. Groups that grow are kept in the lists.
+/// A loose line of the chamber with the least of 100 times the flow time and what is charged, less what is
+/// paid, over all its loose lines; None where there is no loose line. Groups that grow are kept in the lists.
 pub fn least_line(
     alloc: Global,
     extension: &Extension,

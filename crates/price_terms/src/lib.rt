@@ -24,3 +24,4 @@ pub use loose_line::{LooseLine, LooseLines, copied};
 pub use prices::Prices;
 pub use shown::Shown;
 pub use swept::Swept;
+pub use triples::are_among;

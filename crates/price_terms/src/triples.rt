@@ -53,7 +53,7 @@ pub(crate) fn are_triples(triples: &[Triple]) -> bool
 }
 
 /// Whether triples are of so many ships.
-pub(crate) fn are_among(triples: &[Triple], ships: usize) -> bool
+pub fn are_among(triples: &[Triple], ships: usize) -> bool
     ensures { IsTrue result ↔ All (λ t. t.third < ships) triples.now }
 {
     for triple in triples {

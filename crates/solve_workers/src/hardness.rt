@@ -145,6 +145,7 @@ fn board_of(alloc: Global, pricing: Option<Pricing>) -> Option<Board> {
 
 // Lets the workers search a book with prices, and settles it: the book that they leave, or a fresh one
 // of the best plan.
+#[inline(never)]
 #[tactic(auto, using(crate::proofs::ReadyLemmas::best_legal, crate::proofs::ReadyLemmas::best_within, crate::proofs::ReadyLemmas::ready_within_ok))]
 fn priced_by_all<R: Threads + Wait + Sync, G: Gate + Sync>(
     lent: &Lent<'_, R, G>,
@@ -166,6 +167,7 @@ fn priced_by_all<R: Threads + Wait + Sync, G: Gate + Sync>(
 
 // Searches a book with prices: the root on this thread, and then, where several workers serve, all else
 // by them, who begin with the prices of the root.
+#[inline(never)]
 #[tactic(auto, using(crate::proofs::ReadyLemmas::ready_driven, crate::proofs::DrivenLemmas::own_still))]
 fn priced<R: Threads + Wait + Sync, G: Gate + Sync>(
     lent: &Lent<'_, R, G>,
@@ -193,6 +195,7 @@ fn priced<R: Threads + Wait + Sync, G: Gate + Sync>(
 
 // Searches a book without prices for its first nodes. An instance that isn't solved by then begins again,
 // with prices, the best plan and the cuts that were found.
+#[inline(never)]
 #[tactic(auto, using(crate::proofs::ReadyLemmas::ready_driven, crate::proofs::ReadyLemmas::ready_again, crate::proofs::DrivenLemmas::own_still))]
 fn begun<R: Threads + Wait + Sync, G: Gate + Sync>(
     lent: &Lent<'_, R, G>,
@@ -227,6 +230,7 @@ fn show_root(driver: &Driver<'_>, book: &mut Book, case: &Case)
 /// start with prices, with the best plan and the cuts that were found, by the
 /// workers first where there are several. All else is done on this thread. At the end it is shown of the
 /// slots that are left what the root reaches by its prices. Refuses want of memory alone.
+#[inline(never)]
 #[tactic(auto, using(crate::proofs::ShowingLemmas::shown_within))]
 pub(crate) fn driven<R: Threads + Wait + Sync, G: Gate + Sync>(
     lent: &Lent<'_, R, G>,

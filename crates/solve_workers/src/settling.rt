@@ -47,6 +47,7 @@ fn release_others(book: &mut Book)
 /// The book to drive on: the one that the workers leave, without what they hold, where it is of the
 /// case, was opened at this cost, which is at least the plan's, and the driver is free. Else it is a fresh book
 /// of the plan with the given cuts. Refuses want of memory alone.
+#[inline(never)]
 #[tactic(auto, using(crate::proofs::SettleLemmas::freed_ready, crate::proofs::OpeningLemmas::opened_ready_ok))]
 pub(crate) fn settled(
     alloc: Global,

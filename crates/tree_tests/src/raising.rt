@@ -47,11 +47,11 @@ fn ships_that_lack_get_dearer(rt: HostRuntime) -> Result<(), Fail> {
         ([3500, 3500], 1, 1, 7000, 70, false, [3500, 3500]),
     ] {
         let mut ascent = ascent_from(start)?;
-        assert!(rt; ascent.raise(&[0, 1], &standing(first, second), sum, goal) == goes_on);
+        assert!(rt; ascent.raise(&[0, 1], &standing(first, second), sum, goal, false) == goes_on);
         assert!(rt; ascent.tried().as_slice() == tried.as_slice());
         assert!(rt; ascent.best().as_slice() == start.as_slice());
         assert!(rt; ascent.best_sum() == sum);
-        let again = ascent.raise(&[0, 1], &standing(0, 0), sum, goal);
+        let again = ascent.raise(&[0, 1], &standing(0, 0), sum, goal, false);
         assert!(rt; again == !goes_on);
     }
     Ok(())
@@ -70,17 +70,19 @@ fn it_goes_back_to_the_best_prices_and_ends_where_the_goal_is_out_of_sight(
         spans: 3,
     };
     let mut ascent = Ascent::new(prices, pace);
-    assert!(rt; ascent.raise(&[0, 1], &standing(0, 0), 0, 70));
-    assert!(rt; ascent.raise(&[0, 1], &standing(2, 2), -5, 70));
+    assert!(rt; ascent.raise(&[0, 1], &standing(0, 0), 0, 70, false));
+    assert!(rt; ascent.raise(&[0, 1], &standing(2, 2), -5, 70, false));
     // from 0 again, by a step of two thirds: the direction is 3 tenths up and once down
     assert!(rt; ascent.best().as_slice() == [0, 0].as_slice());
     assert!(rt; ascent.tried().as_slice() == [0, 0].as_slice());
     // two steps gained 2400, and three times as much is more than 4600
-    assert!(rt; ascent.raise(&[0, 1], &standing(0, 0), 2400, 70));
+    assert!(rt; ascent.raise(&[0, 1], &standing(0, 0), 2400, 70, false));
     assert!(rt; ascent.best_sum() == 2400);
-    assert!(rt; ascent.raise(&[0, 1], &standing(0, 0), 2450, 70));
+    assert!(rt; ascent.raise(&[0, 1], &standing(0, 0), 2450, 70, false));
+    // a step whose lines gave new cuts doesn't count
+    assert!(rt; ascent.raise(&[0, 1], &standing(0, 0), 3500, 70, true));
     // two more gained 1100, and three times as much is less than 3500
-    assert!(rt; !ascent.raise(&[0, 1], &standing(0, 0), 3500, 70));
+    assert!(rt; !ascent.raise(&[0, 1], &standing(0, 0), 3500, 70, false));
     Ok(())
 }
 
@@ -115,7 +117,7 @@ fn a_triple_that_several_groups_have_gets_dearer(rt: HostRuntime) -> Result<(), 
     };
     let mut ascent = Ascent::new(prices, pace);
     assert!(rt; !ascent.widen(pace));
-    assert!(rt; ascent.raise(&[0, 1, 2], &in_pairs(), 0, 70));
+    assert!(rt; ascent.raise(&[0, 1, 2], &in_pairs(), 0, 70, false));
     assert!(rt; ascent.tried().triples().is_empty());
     // three groups have two of the three ships, and one may
     assert!(rt; ascent.widen(pace));
@@ -123,14 +125,14 @@ fn a_triple_that_several_groups_have_gets_dearer(rt: HostRuntime) -> Result<(), 
     assert!(rt; ascent.tried().as_slice() == [1000, 1000, 1000].as_slice());
     assert!(rt; triple_of(ascent.tried()) == Some([0, 1, 2, 1]));
     // a quarter of a step over a gap of 7000: two sevenths of that up, each ship a seventh down
-    assert!(rt; ascent.raise(&[0, 1, 2], &in_pairs(), 0, 70));
+    assert!(rt; ascent.raise(&[0, 1, 2], &in_pairs(), 0, 70, false));
     assert!(rt; ascent.tried().as_slice() == [750, 750, 750].as_slice());
     assert!(rt; triple_of(ascent.tried()) == Some([0, 1, 2, 501]));
     // there is no other triple
     assert!(rt; !ascent.widen(pace));
     // an ascent that begins with a triple leaves its price
     let mut below = Ascent::new(ascent.tried().copy(), pace);
-    assert!(rt; below.raise(&[0, 1, 2], &in_pairs(), 0, 70));
+    assert!(rt; below.raise(&[0, 1, 2], &in_pairs(), 0, 70, false));
     assert!(rt; below.tried().as_slice() == [0, 0, 0].as_slice());
     assert!(rt; triple_of(below.tried()) == Some([0, 1, 2, 501]));
     Ok(())
