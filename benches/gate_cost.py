@@ -1,5 +1,5 @@
 #!/usr/bin/env python3
-"""gate_cost.py [FILE]: runs the whole gate from nothing (`rt ci --anew`) at the top of the repository, samples which crate takes
+"""gate_cost.py [FILE]: runs the whole gate from nothing at the top of the repository, samples which crate takes
 which processor seconds, and prints a table by crate, the sums by kind, and the longest chain of crates by crates.txt. The gate's own
 lines go to FILE (else out/gate_cost.log). The sum is the kernel's for all processes of the run; the table is sampled twice a second, so
 that a process's last half second is missed."""
@@ -89,12 +89,18 @@ def report(seen, total, clock):
     print(f"all processes: {total / 60:.1f} processor minutes in {clock / 60:.1f} minutes of clock on {os.cpu_count()} processors")
 
 
+def gate_words():
+    """The command of a whole gate: a kit that keeps what it has proved is asked to begin anew."""
+    said = subprocess.run(["rt", "help"], stdout=subprocess.PIPE, stderr=subprocess.STDOUT, text=True)
+    return ["rt", "ci", *["--anew"] * ("--anew" in said.stdout)]
+
+
 def main():
     log = sys.argv[1] if len(sys.argv) > 1 else os.path.join(ROOT, "out", "gate_cost.log")
     os.makedirs(os.path.dirname(os.path.abspath(log)), exist_ok=True)
     begun, seen = time.time(), {}
     with open(log, "w") as out:
-        gate = subprocess.Popen(["rt", "ci", "--anew"], cwd=ROOT, stdout=out, stderr=out, start_new_session=True)
+        gate = subprocess.Popen(gate_words(), cwd=ROOT, stdout=out, stderr=out, start_new_session=True)
         while gate.poll() is None:
             sample(gate.pid, seen)
             time.sleep(0.5)

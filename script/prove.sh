@@ -14,7 +14,7 @@ prove() {
   is_kit_of_sources || say "this machine's kit is $(rt version), and the sources were proved with $(kit_of_sources); a proof may fail"
   if ! gate_keeps; then
     way=prove_crates
-    say "the kit can't keep beside itself what its gate proves, so one crate is proved after the other, on one processor"
+    say "the kit's gate can't keep what it proves, so one crate is proved after the other, on one processor"
   fi
   say "proving the crates of the program; this may take an hour or more. What is proved is kept if you stop"
   $way "$log" || return 70
@@ -24,11 +24,13 @@ prove() {
   say "the program is proved and built, $(minutes "$SECONDS") after the start; ./glock answers by it from now on"
 }
 
-# What the gate proves it keeps beside the kit. Who may not write there would prove all anew after each stop.
+# What the gate proves it keeps beside the kit. Who may not write there would prove all anew after each stop, and so would
+# who has a kit whose gate keeps nothing.
 gate_keeps() {
-  local kit
-  kit=$(readlink -f "$(command -v rt)")
-  kit=$(dirname "${kit%/bin/*}")
+  local command kit
+  command=$(readlink -f "$(command -v rt)")
+  kit=$(dirname "${command%/bin/*}")
+  grep -q rattle-kept "$command" || return
   if [ -e "$kit/rattle-kept" ]; then [ -d "$kit/rattle-kept" ] && [ -w "$kit/rattle-kept" ]; else [ -w "$kit" ]; fi
 }
 
