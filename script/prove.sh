@@ -1,5 +1,5 @@
-# Proves and builds the programs, and says how far it is: by the kit's gate with all processors, over a copy that holds
-# only the crates of the programs; or, where the gate can keep nothing, one crate after the other.
+# Proves and builds the programs with all processors, and says how far it is: by the kit's gate, over a copy that holds
+# only the crates of the programs; or, where the gate can keep nothing, each crate by itself.
 
 prove() {
   local log=$top/out/prove.log begin=$top/out/prove.begin name way=prove_by_gate
@@ -14,7 +14,7 @@ prove() {
   is_kit_of_sources || say "this machine's kit is $(rt version), and the sources were proved with $(kit_of_sources); a proof may fail"
   if ! gate_keeps; then
     way=prove_crates
-    say "the kit's gate can't keep what it proves, so one crate is proved after the other, on one processor"
+    say "the kit's gate can't keep what it proves, so each crate is proved by itself"
   fi
   say "proving the crates of the program; this may take an hour or more. What is proved is kept if you stop"
   $way "$log" || return 70
@@ -122,31 +122,92 @@ say_refused() {
   say "${crate_name:-the program} could not be proved or built; all that the kit said is in $1"
 }
 
-# The time left is guessed from the bytes of the crates' files. What was proved before goes quickly, so the guess is rough.
+# Where the gate keeps nothing: each crate by itself, which keeps it, beside others that don't stand on it.
 prove_crates() {
-  local crate_name bytes done=0 all=0 number=0
-  local -a order=() sizes=()
-  while read -r crate_name bytes; do
-    order+=("$crate_name") sizes+=("$bytes")
-    all=$((all + bytes))
+  local log=$1 name bytes all=0 new=0 number=0 told=$SECONDS room=$top/out/prove lanes
+  local -A sizes=() proved=() running=()
+  local -a order=()
+  while read -r name bytes; do
+    order+=("$name") sizes[$name]=$bytes all=$((all + bytes))
   done < <(crates_with_sizes)
-  for crate_name in "${order[@]}"; do
-    printf 'glock: %2d of %d  %-16s %s gone%s\n' $((number + 1)) ${#order[@]} "$crate_name" "$(minutes "$SECONDS")" \
-      "$(time_left "$done" "$all")" >&2
-    prove_crate "$crate_name" >>"$1" 2>&1 || { say_unproved "$crate_name" "$1"; return 1; }
-    done=$((done + sizes[number]))
-    number=$((number + 1))
+  lanes=$(provers)
+  rm -rf "$room" && mkdir "$room" || return
+  trap 'stop_provers INT' INT
+  trap 'stop_provers TERM' TERM HUP
+  while [ $number -lt ${#order[@]} ]; do
+    for name in "${order[@]}"; do
+      [ ${#running[@]} -lt "$lanes" ] || break
+      [ -z "${proved[$name]-}${running[$name]-}" ] && can_begin "$name" || continue
+      begin_crate "$name" "$room" </dev/null &
+      running[$name]=$!
+    done
+    sleep 0.2
+    for name in "${!running[@]}"; do
+      ! kill -0 "${running[$name]}" 2>/dev/null || continue
+      cat "$room/$name.log" >>"$log"
+      ended_well "$name" "${running[$name]}" "$room" || { end_provers; say_unproved "$name" "$log"; return 1; }
+      unset "running[$name]"
+      proved[$name]=yes number=$((number + 1)) new=$((new + sizes[$name])) told=$SECONDS
+      printf 'glock: %2d of %d  %-20s %s gone%s\n' $number ${#order[@]} "$name" "$(minutes "$SECONDS")" "$(time_left "$new" "$all")" >&2
+    done
+    if [ $((SECONDS - told)) -ge 60 ]; then
+      say "at work on ${!running[*]}; $number of ${#order[@]} are proved, $(minutes "$SECONDS") gone$(time_left "$new" "$all")"
+      told=$SECONDS
+    fi
+  done
+  rm -rf "$room"
+  trap - INT TERM HUP
+}
+
+# how many provers at once: one for each processor, and for each three gigabytes of memory
+provers() {
+  local processors memory
+  processors=$(grep -c '^processor' /proc/cpuinfo)
+  memory=$(awk '/^MemAvailable:/ { print int($2 / 3000000) }' /proc/meminfo)
+  echo $((memory < 1 ? 1 : memory < processors ? memory : processors))
+}
+
+# whether all crates that one uses are proved
+can_begin() {
+  local name
+  for name in $(uses_of "$1"); do
+    [ -z "${sizes[$name]-}" ] || [ -n "${proved[$name]-}" ] || return 1
   done
 }
 
+uses_of() { sed -n -E "s/^$1( [^:]*)?:([^#]*).*/\2/p" "$top/crates.txt"; }
+
 # A library is built; a program is built and run, on a word that ends it at once.
-prove_crate() {
+begin_crate() {
   cd "$top/crates/$1" || return
   if is_program "$1"; then
-    [ "$(rt run -- '?' </dev/null)" = "bad words" ] && [ -x "$(program_of "$1")" ]
+    exec rt run -- '?' >"$2/$1.said" 2>"$2/$1.log"
   else
-    rt lib
+    exec rt lib >"$2/$1.log" 2>&1
   fi
+}
+
+ended_well() {
+  local status=0
+  wait "$2" || status=$?
+  if is_program "$1"; then
+    [ "$(<"$3/$1.said")" = "bad words" ] && [ -x "$(program_of "$1")" ]
+  else
+    return $status
+  fi
+}
+
+# The kit ends its provers where it is ended itself.
+end_provers() {
+  [ ${#running[@]} = 0 ] || { kill "${running[@]}" && wait "${running[@]}"; } 2>/dev/null
+  rm -rf "$top/out/prove"
+  trap - INT TERM HUP
+}
+
+stop_provers() {
+  end_provers
+  say "stopped; ./glock prove goes on from what is proved"
+  die_by "$1"
 }
 
 say_unproved() {
