@@ -3,9 +3,7 @@
 # bytes, the seconds of solving and of checking, their ratio, the greatest memory of checking, and that over the bytes.
 # A second program with the same command line may be given: it must accept the dossiers, and its own must be accepted.
 set -eu
-cd "$(dirname "$0")/.."
-program=$PWD/crates/lock_main/out/lock_main
-[ -x "$program" ] || (cd crates/lock_main && rt run -- '?' >/dev/null || true)
+. "$(dirname "$0")/program.sh"
 
 python3 - "$program" "$@" <<'PYTHON'
 import os, resource, subprocess, sys, tempfile, time

@@ -2,9 +2,7 @@
 # Solves generated lots and prints a table: lot, ships, chambers, the report's first line, seconds, and the greatest memory in MB.
 # A second program with the same command line may be given, to be timed beside it.
 set -eu
-cd "$(dirname "$0")/.."
-program=$PWD/crates/lock_main/out/lock_main
-[ -x "$program" ] || (cd crates/lock_main && rt run -- lot >/dev/null)
+. "$(dirname "$0")/program.sh"
 
 # the first line, the seconds and the greatest memory of a run
 run() {

@@ -3,13 +3,9 @@
 # medians by the clock, how many times as fast two and four are as one, and the medians of the processor time.
 # Instances may be given as files in the place of lots 1 to 3 with 24 ships on 2 and 4 chambers.
 set -eu
-files=()
-for file in "$@"; do files+=("$(realpath "$file")"); done
-cd "$(dirname "$0")/.."
-program=$PWD/crates/lock_main/out/lock_main
-[ -x "$program" ] || (cd crates/lock_main && rt run -- lot >/dev/null)
+. "$(dirname "$0")/program.sh"
 
-python3 - "$program" ${files[@]+"${files[@]}"} <<'PYTHON'
+python3 - "$program" "$@" <<'PYTHON'
 import os, statistics, subprocess, sys, time
 program, files = sys.argv[1], sys.argv[2:]
 WORKERS, TIMES = (1, 2, 4), 5

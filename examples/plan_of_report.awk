@@ -12,7 +12,7 @@ BEGIN { if (lock != "") read_arrivals() }
 { sub(/\r$/, "") }
 
 $1 == "lockage" {
-  if (NF < 9 || $3 != "chamber" || $6 != "start") fail("line " NR " is no line of a report")
+  if (NF < 9 || $3 != "chamber" || $6 != "start") fail("line " NR " is no line of a report" (NF == 4 ? "; perhaps this is a plan text already" : ""))
   lockages++
   head[lockages] = $4 " " $5
   row[lockages] = NR
@@ -36,6 +36,7 @@ NF == 1 && $1 == "end" { is_whole = 1 }
 END {
   if (failed) exit 1
   if (!is_whole) fail("this is no whole report: it has no line end")
+  if (!lockages) fail("this is no report: it has no lockage")
   first = minute_of_begin()
   write("plan", 1)
   for (i = 1; i <= lockages; i++) {

@@ -45,6 +45,14 @@ changes() {
   [ $# = 2 ] || { say "changes needs two reports or plans, the old one and the new one"; return 2; }
   for file in "$@"; do can_be_read "$file" || return; done
   awk -v first="$1" -v second="$2" -f "$script/time_of_day.awk" -f "$script/changes.awk" </dev/null
+  case $? in
+    0) return ;;
+    1) say_at "$1" "this is no report and no plan: it has no lockage" ;;
+    2) say_at "$2" "this is no report and no plan: it has no lockage" ;;
+    3) say "one of $1 and $2 has times of day and the other minutes; make both reports with --clock, or both without" ;;
+    *) return 5 ;;
+  esac
+  return 10
 }
 
 # stats DOSSIER; without it, or as -, standard input

@@ -57,6 +57,9 @@ changes evening.plan evening-early.plan | 0 | 7 ships unchanged
 changes plain.report plain.report | 0 | 9 ships unchanged
 changes evening.plan | 2 | | changes needs two reports or plans
 changes evening.plan noplan | 2 | | there is no file "noplan"
+changes evening.plan evening.lock | 10 | | evening.lock: this is no report and no plan: it has no lockage
+changes evening.lock evening.plan | 10 | | evening.lock: this is no report and no plan: it has no lockage
+changes evening.plan 1700.report | 10 | | one of evening.plan and 1700.report has times of day and the other minutes
 stats two.dossier | 0 | dossier     whole, version 1
 stats two.dossier | 0 | cut 0       c1 row s1 s2
 stats spaced.dossier | 0 | bytes       418
@@ -75,6 +78,8 @@ stats nodossier | 2 | | there is no file "nodossier"
 stats days | 66 | | days can't be read
 help table | 0 | ./glock table [--csv] FOLDER
 changes --help | 0 | ./glock changes OLD NEW
+changes -h | 0 | ./glock changes OLD NEW
+table days --help | 0 | ./glock table [--csv] FOLDER
 ROWS
 sed '/^berth iris/d' "$room/evening.plan" >"$room/less.plan"
 call changes "$room/evening.plan" "$room/less.plan"
@@ -103,6 +108,25 @@ name,length,width,arrival\nalva,110,11,0\n | 1 | | lock_of_csv: the first line n
 name,way,length,width,arrival\nalva,north,110,11,0\n | 1 | | line 2: the way must be up or down, and not "north"
 name,way,length,width,arrival\nalva,up,long,11,0\n | 1 | | line 2: the length must be metres, and not "long"
 name,way,length,width,arrival\nalva,up,110,11,noon\n | 1 | | line 2: the arrival must be HH:MM or a minute, and not "noon"
+name,way,length,width,arrival\nalva,up,110,11,17:65\n | 1 | | line 2: the arrival must be HH:MM or a minute, and not "17:65"
+name,way,length,width,arrival\nalva,up,110,11,17:25:30\n | 0 | ship alva up 1100 110 26 0
+name,way,length,width,arrival\nÎle de Ré,up,110,11,17:25,,\n | 0 | ship Ile_de_Re up 1100 110 25 0
+name,way,length,width,arrival\nalva,up,110,5,11,4,17:25\n | 1 | | line 2 has 7 cells, and the first line 5; a comma in a cell wants quotes
+name,way,length,width,arrival,handling\nalva,up,110,11,17:25,5.5\n | 1 | | line 2: the handling must be a whole number up to 1000000, and not "5.5"
+name,way,length,width,arrival,class\nalva,up,110,11,17:25,ADN\n | 1 | | line 2: the class must be a whole number up to 9, and not "ADN"
+name,way,length,width,arrival\ralva,up,110,11,17:25\r | 1 | | its lines end in carriage returns alone
+ROWS
+wrong_call() {
+  out=$(cd "$room" && awk $1 -f "$top/examples/$2" "$3" 2>err)
+  status=$? err=$(<"$room/err")
+  check "$2 $3 $1" gives "$4" "${6-}" "$5"
+}
+rows wrong_call <<'ROWS'
+-v lock=evening.lock -v begin=1700 | lock_of_csv.awk | ships.csv | 1 | begin must be a time of day such as 17:00, and not "1700"
+| csv_of_report.awk | evening.plan | 1 | csv_of_report: this is no whole report | lockage,chamber
+| csv_of_report.awk | cut.report | 1 | this is no whole report: it has no line end | lockage,chamber
+| plan_of_report.awk | evening.lock | 1 | plan_of_report: this is no report: it has no lockage
+| plan_of_report.awk | evening.plan | 1 | line 3 is no line of a report; perhaps this is a plan text already
 ROWS
 { echo name,way,length,width,arrival; printf 's%s,up,50,6,0\n' {1..25}; } >"$room/ships.csv"
 awk -v lock="$room/evening.lock" -f "$top/examples/lock_of_csv.awk" "$room/ships.csv" >"$room/ships.lock"
