@@ -72,8 +72,8 @@ function minutes(text,    days, parts) {
 
 # The time of minute 0 as most ships tell it: their arrival and their flow time make their end. One that was given
 # holds where some ship agrees, or none tells.
-function minute_of_begin(    vote, most, found) {
-  found = begin == "" ? "" : minutes(begin)
+function minute_of_begin(    vote, most, found, given) {
+  given = found = begin == "" ? "" : minutes(begin)
   if (found != "" && found in votes) return found
   for (vote in votes)
     # subscripts are texts, which awk compares letter by letter
@@ -81,6 +81,8 @@ function minute_of_begin(    vote, most, found) {
       most = votes[vote]
       found = vote
     }
+  if (given != "" && found != given)
+    warn("by its ships\047 arrivals minute 0 is " sprintf("%02d:%02d", int(found / 60), found % 60) " in this report, and not " begin)
   return found
 }
 
@@ -88,6 +90,8 @@ function write(text, from) {
   print text
   if (lines != "") print from > lines
 }
+
+function warn(why) { print "plan_of_report: warning: " why > "/dev/stderr" }
 
 function fail(why) {
   print "plan_of_report: " why > "/dev/stderr"

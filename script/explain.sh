@@ -72,14 +72,22 @@ explain_refused() {
 explain_line() {
   local sentence=
   if [ -n "$input" ]; then
-    sentence=$(awk -v number="$2" -v kind="$4" -v part="$1" -v with_plan="$(reads_plan "$command" && echo 1)" \
+    sentence=$(awk -v number="$2" -v kind="$4" -v part="$1" -v command="$command" -v with_plan="$(reads_plan "$command" && echo 1)" \
       -f "$script/nearest.awk" -f "$script/line.awk" "$input" 2>/dev/null)
+    sentence=$(with_lines "$sentence")
   fi
   sentence=${sentence:-$(sentence_of "$1 $4")}
   if [ "$1" = instance ] && [ -n "$second_name" ] && [ "$2" -gt "$first_lines" ]; then
     sentence="$first_name has no line end, so the plan was read as a part of it."
   fi
   say_at "$(place_of "$2")" "fault $3 $4: $sentence"
+}
+
+# a sentence in which numbers of lines stand between two signs of code 1, with the lines as they were given
+with_lines() {
+  local sentence=$1
+  while [[ $sentence =~ $'\001'([0-9]+)$'\001' ]]; do sentence=${sentence/"${BASH_REMATCH[0]}"/$(line_number "${BASH_REMATCH[1]}")}; done
+  printf '%s' "$sentence"
 }
 
 explain_unfit() {

@@ -17,7 +17,7 @@ table() {
     rows+=("$(row_of_day "$file")")
     [[ ${rows[-1]} =~ $'\t'(optimal|legal)$'\t' ]] || open=1
   done
-  printf '%s\n' "${rows[@]}" | awk -F '\t' -v csv=$is_csv -f "$script/table_lines.awk" || return 5
+  printf '%s\n' "${rows[@]}" | awk -F '\t' -v csv=$is_csv -f "$script/table_lines.awk" 2>/dev/null || { say "write fault: not all of the table could be written"; return 5; }
   return $open
 }
 
@@ -35,7 +35,11 @@ row_of_day() {
   local report=$1 row=
   if [[ $1 == *.lock ]]; then report=${1%.lock}.report; fi
   if [ -r "$report" ]; then row=$(awk -f "$script/table.awk" "$report"); fi
-  if [ -n "$row" ] && [ "$1" -nt "$report" ]; then say_at "$report" "warning: older than $1"; fi
+  if [ -z "$row" ] && [ -s "$report" ]; then
+    say_at "$report" "warning: no whole report, so its day counts as one without"
+  elif [ -n "$row" ] && [ "$1" -nt "$report" ]; then
+    say_at "$report" "warning: older than $1"
+  fi
   printf '%s\t%s' "$1" "${row:-no report$(printf '\t-%.0s' {1..7})}"
 }
 

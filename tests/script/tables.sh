@@ -48,7 +48,7 @@ table --csv days | 1 | days/tuesday.lock,open,506,280,44.7,10,8,
 table --csv days | 1 | days/friday.lock,no report,,,,,,,
 table --csv days/monday.lock 2350.report judged.report | 0 | 2350.report,optimal,270,270,0.0,9,8,10,brio
 table --csv judged.report | 0 | judged.report,legal,270,,,9,8,10,brio
-table --csv cut.report | 1 | cut.report,no report
+table --csv cut.report | 1 | cut.report,no report | cut.report: warning: no whole report
 table | 2 | | table needs a folder with files such as monday.lock
 table --scv days | 2 | | table takes --csv, and the names of folders and files, and not "--scv"
 table nodays | 2 | | there is no file "nodays"
