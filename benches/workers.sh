@@ -4,6 +4,7 @@
 # Instances may be given as files in the place of lots 1 to 3 with 24 ships on 2 and 4 chambers.
 set -eu
 . "$(dirname "$0")/program.sh"
+for file in "$@"; do [ -r "$file" ] || { echo "workers.sh: $file can't be read" >&2; exit 66; }; done
 
 python3 - "$program" "$@" <<'PYTHON'
 import os, statistics, subprocess, sys, time
