@@ -54,11 +54,18 @@ how_to_go_on() {
   local bound=--nodes
   [ -z "$seconds" ] || bound=--seconds
   case $1 in
-    "open nodes"*) echo "Give more $bound, or keep the search with --keep and go on with resume" ;;
+    "open nodes"*) echo "Give more $bound$(about_prices "$1"), or keep the search with --keep and go on with resume" ;;
     "open turns 200000"*) echo "The named ships were too hard to place together, by as many tries as may be asked for" ;;
     "open turns"*) echo "Give more --turns: the named ships were too hard to place together" ;;
     *) echo "Go on with resume" ;;
   esac
+}
+
+# A search of few steps goes without prices.
+about_prices() {
+  local used
+  read -r _ _ used _ <<<"$1"
+  [ "$used" -gt 1000 ] || [ "$command" = resume ] || echo " (above 1,000 nodes the search goes by prices, which show far more)"
 }
 
 explain_refused() {

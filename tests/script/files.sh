@@ -46,7 +46,7 @@ judge evening.lock evening-early.plan | 10 | illegal lockage 3 Early | evening-e
 judge endless.lock evening.plan | 3 | line 14 fault 3 Word | evening.plan:2: fault 3 Word: endless.lock has no line end
 judge tail.lock bad.lock | 10 | plan line 3 fault 2 NoMark | bad.lock:1: fault 2 NoMark
 judge evening.lock long.plan | 3 | too long 131072 | evening.lock and long.plan together may have 131072 bytes at most
-picture evening.lock long.plan | 10 | fault 3 Word | fault 3 Word: no line may begin with "later" here
+picture evening.lock long.plan | 10 | fault 3 Word | fault 3 Word: the line end is in line 20, and nothing may follow it
 picture evening.lock huge.plan | 66 | | huge.plan has more than 16777216 bytes; join the two files and give one
 ROWS
 

@@ -19,7 +19,7 @@ replan now.lock evening.plan --now 150 | 0 | optimal cost 277 | dina: as before
 replan now.lock evening.plan --now 19:30 --clock 17:00 | 0 | start 21:22 end 21:47 | gull: side 21:00 -> side 21:22
 replan --now=19:30 --clock=17:00 now.lock 1700.report | 0 | start 21:22 end 21:47 | gull: side 21:00 -> side 21:22
 replan now.lock evening.plan --from 19:30 --clock 17:00 | 0 | start 21:22 end 21:47 | gull: side 21:00 -> side 21:22
-replan now.lock evening.plan --now +1 01:00 --clock 17:00 | 10 | illegal lockage 6 Early | gull arrives at minute 262
+replan now.lock evening.plan --now +1 01:00 --clock 17:00 | 10 | illegal lockage 6 Early | gull arrives at 21:22
 replan now.lock evening.plan --now=0 --clock 17:00 | 0 | optimal cost 277 | gull: 
 replan now.lock evening.plan --now 0150 --clock 17:00 | 0 | optimal cost 277 | warning: --now 0150 is minute 150, which is 19:30; the time of day is written 01:50
 replan now.lock evening.plan --now 250 --clock 17:00 | 10 | illegal lockage 6 Early | the lockage starts before all its ships have arrived. It starts at 21:00; gull arrives at 21:22. It starts before 21:10, so it has begun and stays

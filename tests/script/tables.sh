@@ -116,6 +116,8 @@ name,way,length,width,arrival,handling\nalva,up,110,11,17:25,5.5\n | 1 | | line 
 name,way,length,width,arrival,class\nalva,up,110,11,17:25,ADN\n | 1 | | line 2: the class must be a whole number up to 9, and not "ADN"
 name,way,length,width,arrival\ralva,up,110,11,17:25\r | 1 | | its lines end in carriage returns alone
 ROWS
+echo name,way,length,width,arrival >"$room/ships.csv"
+printf 'name,way,length,width,arrival\nalva,up,110,11,0\n' >"$room/alva.csv"
 wrong_call() {
   out=$(cd "$room" && awk $1 -f "$top/examples/$2" "$3" 2>err)
   status=$? err=$(<"$room/err")
@@ -123,8 +125,12 @@ wrong_call() {
 }
 rows wrong_call <<'ROWS'
 -v lock=evening.lock -v begin=1700 | lock_of_csv.awk | ships.csv | 1 | begin must be a time of day such as 17:00, and not "1700"
+-v lock=nolock | lock_of_csv.awk | alva.csv | 1 | the lock's file nolock can't be read
 | csv_of_report.awk | evening.plan | 1 | csv_of_report: this is no whole report | lockage,chamber
 | csv_of_report.awk | cut.report | 1 | this is no whole report: it has no line end | lockage,chamber
+| plan_of_dossier.awk | evening.lock | 1 | plan_of_dossier: no plan stands in it
+| plan_of_dossier.awk | cut.dossier | 1 | its plan is damaged or cut off | berth
+| plan_of_dossier.awk | evening.dossier | 0 | | lockage main up 0
 | plan_of_report.awk | evening.lock | 1 | plan_of_report: this is no report: it has no lockage
 | plan_of_report.awk | evening.plan | 1 | line 3 is no line of a report; perhaps this is a plan text already
 ROWS
