@@ -16,7 +16,18 @@ explain_answer() {
     7) explain_dossier "$first" ;;
     8) explain_unfit "${parts[1]}" ;;
     10) explain_plan "$first" ;;
-    *) say_at "$subject" "the program ended with status $status and gave no answer; it may have been stopped from outside" ;;
+    *) say_at "$subject" "the program ended with status $status$(signal_of "$status") and gave no answer; it may have been stopped from outside" ;;
+  esac
+}
+
+# of a program that a signal ended
+signal_of() {
+  local name
+  [ "$1" -gt 128 ] && name=$(kill -l $(($1 - 128)) 2>/dev/null) || return 0
+  case $name in
+    KILL) printf ' (killed, as where the machine has too little memory or a limit of time is over)' ;;
+    SEGV) printf ' (a fault of memory, as where ulimit -s allows less stack than 1024)' ;;
+    *) printf ' (signal %s)' "$name" ;;
   esac
 }
 

@@ -301,7 +301,8 @@ rows stood_in <<'ROWS'
 4 | read fault | read fault: evening.lock could not be read
 5 | none | write fault: not all of the answer
 6 | no memory | no memory: this machine has too little free memory
-137 | none | the program ended with status 137
+137 | none | the program ended with status 137 (killed, as where the machine has too little memory
+139 | none | the program ended with status 139 (a fault of memory, as where ulimit -s allows less stack than 1024)
 ROWS
 
 # How many steps and tries the search gets where none are given: another stand-in says its words.
