@@ -2,7 +2,11 @@
 
 explain_dossier() {
   case $1 in
-    "dossier fault 1 "*) explain_line instance "${parts[5]}" "${parts[7]}" "${parts[8]}" ;;
+    "dossier fault 1 "*)
+      explain_line instance "${parts[5]}" "${parts[7]}" "${parts[8]}"
+      # Of a pipe the script keeps no dossier to look at.
+      [ -n "$input" ] || [ "${parts[8]}" != NoHeader ] || say "perhaps what stands before this command in the pipe made no dossier"
+      ;;
     "dossier fault 4 "*) say_at "$first_name" "fault 4 Shape: $(sentence_of "shape ${parts[5]}")" ;;
     "dossier fault "*)
       say_at "$first_name" "fault ${parts[2]} ${parts[3]}: $(sentence_of "dossier ${parts[3]}$(form_of_dossier)")$(other_kind)$(second_file)"

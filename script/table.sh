@@ -74,6 +74,7 @@ stats() {
   case $? in
     0) ;;
     1) say_at "$name" "this is no dossier: no certificate follows the instance's line end"; return 7 ;;
+    2) say_at "$name" "this dossier is damaged or cut off: its certificate has not all its parts"; return 7 ;;
     *) return 5 ;;
   esac
 }

@@ -72,6 +72,7 @@ stats triples.dossier | 0 | triples     2
 stats triples.dossier | 0 | nodes       1
 stats two.open | 0 | dossier     open, version 2
 stats plain.report | 7 | | plain.report: this is no dossier
+stats cut.dossier | 7 | | cut.dossier: this dossier is damaged or cut off
 stats two.open two.open | 2 | | stats takes the name of one dossier
 stats --csv | 2 | | stats takes the name of one dossier
 stats nodossier | 2 | | there is no file "nodossier"
