@@ -12,7 +12,7 @@ NR == 1 {
   if (/\r/) fail("its lines end in carriage returns alone; save it as CSV with line feeds")
   separator = /;/ ? ";" : /\t/ ? "\t" : ","
   columns = cells($0)
-  for (i = 1; i <= columns; i++) column[tolower(cell[i])] = i
+  for (i = 1; i <= columns; i++) column[without_unit(tolower(cell[i]))] = i
   n = split("name way length width arrival", wanted, " ")
   for (i = 1; i <= n; i++)
     if (!(wanted[i] in column)) fail("the first line names no column " wanted[i] "; name, way, length, width and arrival are wanted (in CSV UTF-8)")
@@ -46,6 +46,12 @@ END {
   printf "%s%s", chambers, closures
   for (i = 1; i <= ships; i++) print ship[i] (has_class ? " " class_of[i] : "")
   print "end"
+}
+
+# a column's name such as length_m or handling (min)
+function without_unit(name) {
+  sub(/([ _]+|[ _]*[(\[])(m|metres|meters|min|minutes)[)\]]?$/, "", name)
+  return name
 }
 
 function value(name) { return name in column ? cell[column[name]] : "" }

@@ -254,6 +254,7 @@ solve evening.lock --clock 06:00 | 0 | start 08:00 end 08:35
 solve evening.lock --clock=23:50 | 0 | start 23:50 end +1 00:25
 judge evening.lock evening.plan --clock 17:00 | 0 | start 17:00 end 17:35
 play evening.lock evening.plan --clock 17:00 | 0 | 17:10 side moor brio
+resume two.open --clock 06:00 | 0 | start 06:00 end 06:27
 picture evening.lock evening.plan --clock 17:00 | 0 | <p class="sub">from 17:00 to
 ROWS
 

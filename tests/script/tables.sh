@@ -111,6 +111,8 @@ name,way,length,width,arrival\nalva,up,long,11,0\n | 1 | | line 2: the length mu
 name,way,length,width,arrival\nalva,up,110,11,noon\n | 1 | | line 2: the arrival must be HH:MM or a minute, and not "noon"
 name,way,length,width,arrival\nalva,up,110,11,17:65\n | 1 | | line 2: the arrival must be HH:MM or a minute, and not "17:65"
 name,way,length,width,arrival\nalva,up,110,11,17:25:30\n | 0 | ship alva up 1100 110 26 0
+name,way,length_m,width (m),arrival,handling [min]\nalva,up,110,11,17:25,5\n | 0 | ship alva up 1100 110 25 5
+name,way,length of stay,width,arrival\nalva,up,110,11,17:25\n | 1 | | the first line names no column length
 name,way,length,width,arrival\nÎle de Ré,up,110,11,17:25,,\n | 0 | ship Ile_de_Re up 1100 110 25 0
 name,way,length,width,arrival\nalva,up,110,5,11,4,17:25\n | 1 | | line 2 has 7 cells, and the first line 5; a comma in a cell wants quotes
 name,way,length,width,arrival,handling\nalva,up,110,11,17:25,5.5\n | 1 | | line 2: the handling must be a whole number up to 1000000, and not "5.5"
