@@ -50,7 +50,7 @@ END {
 
 # a column's name such as length_m or handling (min)
 function without_unit(name) {
-  sub(/([ _]+|[ _]*[(\[])(m|metres|meters|min|minutes)[)\]]?$/, "", name)
+  sub(/([ _]+|[ _]*[[(])(m|metres|meters|min|minutes)[])]?$/, "", name)
   return name
 }
 
