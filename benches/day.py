@@ -49,7 +49,18 @@ def day(kind, number, ships, chambers, p=None):
     return "\n".join([*lines, "end", ""])
 
 
+def is_day(kind, *numbers):
+    """Whether these words name a day that can be made."""
+    if kind not in ("lot", *WITHIN) or len(numbers) not in (3, 4) or not all(word.isdecimal() for word in numbers):
+        return False
+    _, ships, chambers, *p = map(int, numbers)
+    return (3 if kind == "day" else 1) <= ships <= 96 and 1 <= chambers <= 4 and p != [0]
+
+
 if __name__ == "__main__":
-    if len(sys.argv) not in (5, 6) or sys.argv[1] not in ("lot", *WITHIN):
-        sys.exit(__doc__.split(":")[0].replace("day.py", "usage: day.py", 1))
-    sys.stdout.write(day(sys.argv[1], *map(int, sys.argv[2:])))
+    if len(sys.argv) < 2 or not is_day(*sys.argv[1:]):
+        sys.exit(__doc__.replace("day.py", "usage: day.py", 1) + "\nSHIPS are 1 to 96 (of a day from 3 on), CHAMBERS 1 to 4.")
+    try:
+        sys.stdout.write(day(sys.argv[1], *map(int, sys.argv[2:])))
+    except BrokenPipeError:
+        sys.stdout = None

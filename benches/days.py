@@ -7,12 +7,13 @@ of checking: by `check`, or where the search ended open by `lower`. What doesn't
 of the processor. Each single instance is told on standard error."""
 
 import argparse
+import os
 import pathlib
 import resource
 import subprocess
 import sys
 
-from day import day
+from day import day, is_day
 
 KINDS = """lot,32,1 lot,48,2 lot,64,3 lot,96,2 lot,96,4 crowd,32,1 crowd,32,2 crowd,40,3 day,48,2 day,48,3 day,72,3 day,72,4
 steady,48,2,70 steady,48,3,70 steady,64,4,70 steady,48,3,90 steady,48,4,90 steady,48,3,100""".split()
@@ -34,7 +35,8 @@ def solved(program, instance, nodes, seconds):
     if found is None:
         return None
     dossier, status, solving = found
-    assert status in (0, 1), (status, dossier[:100])
+    if status not in (0, 1):
+        sys.exit(f"days.py: {program} ended with status {status}")
     answer, ended, checking = run([program, "lower" if status else "check"], dossier, 3600)
     words = answer.split()
     low, cost = (int(words[1]), int(words[3])) if status else (int(words[2]),) * 2
@@ -66,6 +68,12 @@ def main():
     words.add_argument("--seconds", type=int, default=600, help="seconds of the processor that solving may take (600)")
     words.add_argument("kinds", nargs="*", metavar="KIND,SHIPS,CHAMBERS[,P]", default=KINDS)
     given = words.parse_intermixed_args()
+    if not os.access(given.program, os.X_OK) or given.program.is_dir():
+        words.error(f"there is no program {given.program}")
+    for kind in given.kinds:
+        name, *numbers = kind.split(",")
+        if not is_day(name, "1", *numbers):
+            words.error(f"{kind} is no KIND,SHIPS,CHAMBERS[,P]; day.py says what they are")
     print(f"| {' | '.join(TITLES)} |\n|{'---|' * len(TITLES)}", flush=True)
     for kind in given.kinds:
         print(f"| {' | '.join(row(str(given.program.resolve()), kind, given))} |", flush=True)

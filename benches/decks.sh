@@ -3,6 +3,7 @@
 # many decks there are, how many each leaves undecided, its processor time, and the least turns of the placer by berths, added.
 # The program is that of measure.sh.
 set -eu
+[ $# -gt 0 ] && [ -r "$1" ] || { echo "usage: decks.sh FILE .., instance texts" >&2; exit 2; }
 program=$("$(dirname "$0")/measure.sh")
 
 # what a run counts, and the seconds of processor time that it takes

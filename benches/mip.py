@@ -99,7 +99,10 @@ def solve(solver, text, seconds):
         words = {"cbc": ["cbc", file, "sec", str(seconds), "solve", "solution", out, "quit"],
                  "glpsol": ["glpsol", "--lp", file, "--tmlim", str(seconds), "--output", out]}[solver]
         began = time.time()
-        subprocess.run(words, capture_output=True, text=True)
+        try:
+            subprocess.run(words, capture_output=True, text=True)
+        except FileNotFoundError:
+            sys.exit(f"mip.py: {solver} isn't on this machine")
         took, said = time.time() - began, open(out).read() if os.path.exists(out) else "no solution"
     cost = re.search(r"objective value\s+([\d.]+)|Objective:\s+\S+ = ([\d.]+)", said)
     if cost and re.search(r"^Optimal|INTEGER OPTIMAL", said, re.M):
@@ -113,7 +116,12 @@ def main():
     asked.add_argument("--solve", choices=["cbc", "glpsol"])
     asked.add_argument("--seconds", type=int, default=600)
     words = asked.parse_args()
-    text = "\n".join(model(words.program, *read(sys.stdin.read()))) + "\n"
+    if not os.access(words.program, os.X_OK):
+        asked.error(f"there is no program {words.program}")
+    chambers, ships = read(sys.stdin.read())
+    if not (chambers and ships):
+        asked.error("standard input has no instance")
+    text = "\n".join(model(words.program, chambers, ships)) + "\n"
     print(solve(words.solve, text, words.seconds) if words.solve else text, end="\n" if words.solve else "")
 
 

@@ -3,7 +3,9 @@
 # It needs tidy and, for the second opinion, html5lib with /usr/bin/python3 (the Debian packages tidy and python3-html5lib),
 # so it is no part of the gate. A line for each page: its first words, and the complaints of either.
 set -u
-program=$(readlink -f "$1") picture=$(readlink -f "$2")
+program=$(readlink -m "${1:-}") picture=$(readlink -m "${2:-}")
+[ -f "$program" ] && [ -x "$program" ] && [ -f "$picture" ] && [ -x "$picture" ] || { echo "usage: pages.sh PROGRAM PICTURE, two built programs" >&2; exit 2; }
+for tool in tidy /usr/bin/python3; do command -v $tool >/dev/null || { echo "pages.sh: there is no $tool" >&2; exit 69; }; done
 examples=$(cd "$(dirname "$0")/../examples" && pwd)
 room=$(mktemp -d)
 trap 'rm -rf "$room"' EXIT

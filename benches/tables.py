@@ -84,4 +84,6 @@ def main(program, lot, crowd):
 
 
 if __name__ == "__main__":
+    if len(sys.argv) != 4:
+        sys.exit("usage: tables.py PROGRAM LOT CROWD")
     main(*sys.argv[1:])

@@ -16,17 +16,17 @@ With `--open` it reads open dossiers, whose trees may have open leaves, and prin
     lower LOW cost N                0 or 1   the plan is legal, costs N, and no legal plan costs less than LOW;
                                              the status is 0 where both numbers are equal
 
-dossier_text.py reads the text, refutations.py says of decks which placements are legal and why ships share no lockage,
-times.py when a chamber is ready, price_bound.py what a node reaches by prices, and sweeps.py whether a cost is swept. Here
-stand, in order: the plan, nodes and bounds, and last the check itself, which is short.
+command_line.py reads the words and the file, dossier_text.py the text; refutations.py says of decks which placements are legal
+and why ships share no lockage, times.py when a chamber is ready, price_bound.py what a node reaches by prices, and sweeps.py
+whether a cost is swept. Here stand, in order: the plan, nodes and bounds, and last the check itself, which is short.
 """
 
-import argparse
 import functools
 import sys
 import time
 from collections import namedtuple
 
+from command_line import run
 from dossier_text import (BOUND, CLOSED_FORMS, FEW_SHIPS, FIRST_CUT, FIRST_PROBE, OPEN_FORMS, OPEN_LEAF, OPEN_PRICE, PRICE,
                           SPLIT, SWEEP, THROUGHPUT, Answer, read_dossier)
 from price_bound import PriceBound, hits_in
@@ -225,21 +225,5 @@ def answer(data, is_open=False):
     return (f"lower {low} cost {cost}", 0 if low == cost else 1) if is_open else (f"accepted cost {cost}", 0)
 
 
-def main():
-    words = argparse.ArgumentParser(description="Checks a dossier of a ship lock and prints what `glock check` prints.")
-    words.add_argument("--open", action="store_true", help="read an open dossier and print `lower LOW cost N`")
-    words.add_argument("file", nargs="?", help="the dossier; standard input where it isn't given")
-    given = words.parse_args()
-    try:
-        data = (open(given.file, "rb") if given.file else sys.stdin.buffer).read()
-    except OSError as error:
-        words.error(str(error))
-    text, status = answer(data, given.open)
-    if sys.stderr.isatty():
-        print("\r\033[K", end="", file=sys.stderr, flush=True)
-    print(text)
-    return status
-
-
 if __name__ == "__main__":
-    sys.exit(main())
+    sys.exit(run(answer))

@@ -28,7 +28,15 @@ $1 ~ /^[A-H]$/ && $3 == "x" {
   behind[ships] = $NF " " $NF - lasts
 }
 
-END { flush() }
+NF == 1 && $1 == "end" { is_whole = 1 }
+
+END {
+  flush()
+  if (!number || !is_whole) {
+    print "csv_of_report: this is no whole report" (number ? ": it has no line end" : "") > "/dev/stderr"
+    exit 1
+  }
+}
 
 # The letter of a host may come after its guest's, so a lockage's ships wait for its last one.
 function flush(    i) {

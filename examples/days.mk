@@ -7,7 +7,7 @@ GLOCK ?= glock
 OPTIONS ?=
 reports := $(patsubst %.lock,%.report,$(wildcard $(DAYS)/*.lock))
 
-all: $(reports)
+all: $(or $(reports),$(error there is no day such as monday.lock in the folder $(DAYS)))
 
 # An open end (status 1) has a report too.
 %.report: %.lock

@@ -12,7 +12,7 @@ BEGIN { if (lock != "") read_arrivals() }
 { sub(/\r$/, "") }
 
 $1 == "lockage" {
-  if (NF < 9 || $3 != "chamber" || $6 != "start") fail("line " NR " is no line of a report")
+  if (NF < 9 || $3 != "chamber" || $6 != "start") fail("line " NR " is no line of a report" (NF == 4 ? "; perhaps this is a plan text already" : ""))
   lockages++
   head[lockages] = $4 " " $5
   row[lockages] = NR
@@ -36,6 +36,7 @@ NF == 1 && $1 == "end" { is_whole = 1 }
 END {
   if (failed) exit 1
   if (!is_whole) fail("this is no whole report: it has no line end")
+  if (!lockages) fail("this is no report: it has no lockage")
   first = minute_of_begin()
   write("plan", 1)
   for (i = 1; i <= lockages; i++) {
@@ -71,8 +72,8 @@ function minutes(text,    days, parts) {
 
 # The time of minute 0 as most ships tell it: their arrival and their flow time make their end. One that was given
 # holds where some ship agrees, or none tells.
-function minute_of_begin(    vote, most, found) {
-  found = begin == "" ? "" : minutes(begin)
+function minute_of_begin(    vote, most, found, given) {
+  given = found = begin == "" ? "" : minutes(begin)
   if (found != "" && found in votes) return found
   for (vote in votes)
     # subscripts are texts, which awk compares letter by letter
@@ -80,6 +81,8 @@ function minute_of_begin(    vote, most, found) {
       most = votes[vote]
       found = vote
     }
+  if (given != "" && found != given)
+    warn("by its ships\047 arrivals minute 0 is " sprintf("%02d:%02d", int(found / 60), found % 60) " in this report, and not " begin)
   return found
 }
 
@@ -87,6 +90,8 @@ function write(text, from) {
   print text
   if (lines != "") print from > lines
 }
+
+function warn(why) { print "plan_of_report: warning: " why > "/dev/stderr" }
 
 function fail(why) {
   print "plan_of_report: " why > "/dev/stderr"

@@ -29,7 +29,7 @@ check_option() {
     --seconds) check_seconds "${1#--seconds}" "${2-}"; return ;;
     --drop | --plan-text) check_replan_word "$name"; return ;;
     --*) ;;
-    *) refuse "\"$1\" is no option; options begin with two dashes, and $(what_it_takes)"; return ;;
+    *) refuse_short "$1"; return ;;
   esac
   is_option "$name" || is_flag "$name" || { refuse "there is no option $name$(perhaps "$name" "$(all_options)"); $(what_it_takes)"; return; }
   if is_command "$command" && [[ " $(options_of "$command") " != *" $name "* ]]; then
@@ -39,6 +39,15 @@ check_option() {
   [[ $seen != *" $name "* ]] || { refuse "$name stands twice"; return; }
   seen+="$name "
   check_text "$name" "$@"
+}
+
+# a word that begins with one dash
+refuse_short() {
+  if [ -e "$1" ]; then
+    refuse "\"$1\" begins with a dash, as options do; ./$1 names the file"
+  else
+    refuse "\"$1\" is no option; options begin with two dashes$(perhaps "-$1" "$(all_options)"), and $(what_it_takes)"
+  fi
 }
 
 # the option's name, the word in which it stands, and the words after it
@@ -57,9 +66,13 @@ check_text() {
   refuse "$1 takes a whole number from $(with_commas "$least") to $(with_commas "$most")${text:+, and not \"$text\"}$(about_time "$1" "$text")"
 }
 
-# of a time of day that gave no minute
+# of a time of day that gave no minute, or that isn't written as one
 about_time() {
-  [[ $1 = --from || $1 = --now ]] && is_later_time "$2" || return 0
+  [[ $1 = --from || $1 = --now ]] || return 0
+  if ! is_later_time "$2"; then
+    [[ -z $2 || $2 =~ ^[0-9]+$ ]] || echo "; with --clock it takes a time of day too, such as 09:30, or +1 09:30 of the next day"
+    return
+  fi
   local minute_0=${clock:-${shown_clock-}}
   if [ -z "$minute_0" ]; then
     echo "; a time of day needs --clock with the time of minute 0"
@@ -88,10 +101,12 @@ with_commas() { sed -E ':more; s/([0-9])([0-9]{3})($|,)/\1,\2\3/; t more' <<<"$1
 check_clock() {
   local time=${1#=}
   time=${time:-$2}
-  if is_time_of_day "$time" && ! reads_instance "$command"; then
-    refuse "--clock is for solve, judge, play, replan and picture, and not for ${command:-this}"
+  if is_time_of_day "$time" && ! takes_clock "$command"; then
+    refuse "--clock is for solve, resume, judge, play, replan and picture, and not for ${command:-this}"
+  elif is_time_of_day "$time"; then
+    refuse "--clock may stand once"
   else
-    refuse "--clock needs a time of day after it, such as 06:00, and may stand once"
+    refuse "--clock needs a time of day after it, such as 06:00, from 00:00 to 23:59${time:+, and not \"$time\"}"
   fi
 }
 
@@ -115,19 +130,54 @@ check_plain() {
   for word in "$@"; do
     plain=$((plain + 1))
     if [ $plain = 1 ]; then
-      is_command "$word" || { refuse "there is no command \"$word\"$(perhaps "$word" "$commands $own_commands"); $(the_commands)"; return; }
-    elif [ ! -e "$word" ]; then
-      refuse "there is no file \"$word\""
+      is_command "$word" || { refuse_command "$word"; return; }
+    elif [ ! -e "$word" ] && [ ${#files[@]} -lt "$(most_files "$command")" ]; then
+      refuse "there is no file \"$word\"$(perhaps_file "$word")"
       return
     else
       case $(most_files "$command") in
         0) refuse "$command reads no file, so \"$word\" is one word too many" ;;
-        1) refuse "$command reads one file, so \"$word\" is one too many$(many_days)" ;;
-        2) refuse "$command reads an instance and a plan, so \"$word\" is one file too many" ;;
+        1) refuse "$command reads one file, so \"$word\" is one too many$(many_days "$word")$(what_else "$word")" ;;
+        2) refuse "$command reads an instance and a plan, so \"$word\" is one file too many$(each_dropped "$word")$(what_else "$word")" ;;
       esac
       return
     fi
   done
+}
+
+refuse_command() {
+  if [ -f "$1" ]; then
+    refuse "the command is missing before the file \"$1\", as in ./glock solve $1; $(the_commands)"
+  else
+    refuse "there is no command \"$1\"$(perhaps "$1" "$commands $own_commands --version"); $(the_commands)"
+  fi
+}
+
+# what a word may be that names no file
+what_else() {
+  [ ! -e "$1" ] || return 0
+  if is_time_of_day "$1" && takes_clock "$command"; then
+    echo "; a time of day follows --clock"
+  elif [ ${#drops[@]} = 0 ] && [ -z "$output" ]; then
+    echo "; -o $1 writes the answer to that file"
+  fi
+}
+
+# the file that was perhaps meant: with the end of its name, or of a name near by
+perhaps_file() {
+  local folder= names end
+  for end in lock plan report dossier; do
+    if [ -f "$1.$end" ]; then echo "; perhaps $1.$end is meant"; return; fi
+  done
+  case $1 in */*) folder=${1%/*}/ ;; esac
+  names=$(cd -- "${folder:-.}" 2>/dev/null && printf '%s\n' * | grep -v '[[:space:]]' | head -n 1000 | tr '\n' ' ')
+  [ -z "$1" ] || perhaps "${1##*/}" "$names" | sed "s#perhaps #&$folder#"
+}
+
+# who names several ships behind one --drop
+each_dropped() {
+  local name
+  for name in ${drops[@]+"${drops[@]}"}; do echo "; each ship has a --drop of its own, as in --drop $name --drop $1"; return; done
 }
 
 what_it_takes() {
@@ -155,7 +205,8 @@ perhaps() {
 
 # what who names many files, as by *.lock, may have wanted
 many_days() {
-  [ "$command" != solve ] || echo "; to solve many days, name them one at a time, as in: for day in *.lock; do ./glock solve \"\$day\"; done (docs/using.md shows more, and ./glock table prints a line for each report)"
+  [ "$command" = solve ] && [ -e "$1" ] || return 0
+  echo "; to solve many days, name them one at a time, as in: for day in *.lock; do ./glock solve \"\$day\"; done (docs/using.md shows more, and ./glock table prints a line for each report)"
 }
 
 missing_word() {

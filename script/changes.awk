@@ -1,9 +1,12 @@
 # What differs between two reports or plan texts, `first` and `second`, ship by ship (with time_of_day.awk). With
-# `in_short` a line for every ship tells chamber and start alone, by the clock where `begin` is given.
+# `in_short` a line for every ship tells chamber and start alone, by the clock where `begin` is given. The status is 1 or 2
+# where that file has no lockage, and 3 where one has times of day and the other minutes.
 
 BEGIN {
   read(first, 1)
   read(second, 2)
+  if (!in_short) for (part = 1; part <= 2; part++) if (!lockages[part]) exit part
+  if (has_times[1] != has_times[2]) exit 3
   for (i = 1; i <= ships; i++) if (in_short) tell_in_short(order[i]); else tell(order[i])
   if (!in_short) print same + 0 (same == 1 ? " ship" : " ships") " unchanged"
   exit
@@ -14,6 +17,7 @@ function read(file, part,    line, w, n, found, chamber, way, start) {
   while ((found = (getline line < file)) > 0) {
     sub(/\r$/, "", line)
     n = split(line, w, " ")
+    if (w[1] == "lockage") { lockages[part]++; if (line ~ /:/) has_times[part] = 1 }
     if (w[1] == "lockage" && w[3] == "chamber") { chamber = w[4]; way = w[5]; start = w[7] ~ /^\+/ ? w[7] " " w[8] : w[7] }
     else if (w[1] == "lockage") { chamber = w[2]; way = w[3]; start = w[4] }
     else if (w[1] ~ /^[A-H]$/ && w[3] == "x") keep(part, w[2], chamber, way, start, w[4], w[6], w[7], w[n])

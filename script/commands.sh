@@ -17,6 +17,7 @@ most_files() {
 }
 
 reads_instance() { [[ " solve judge play replan picture " == *" $1 "* ]]; }
+takes_clock() { [[ $1 = resume ]] || reads_instance "$1"; }
 reads_plan() { [[ " judge play replan picture " == *" $1 "* ]]; }
 reads_dossier() { [[ " check lower resume picture " == *" $1 "* ]]; }
 
@@ -37,7 +38,7 @@ options_of() {
 # the options of the script that a command takes
 own_options_of() {
   echo "-o"
-  if reads_instance "$1"; then echo "--clock"; fi
+  if takes_clock "$1"; then echo "--clock"; fi
   if takes_seconds "$1"; then echo "--seconds"; fi
   if [ "$1" = replan ]; then echo "--drop --plan-text"; fi
 }

@@ -16,7 +16,18 @@ explain_answer() {
     7) explain_dossier "$first" ;;
     8) explain_unfit "${parts[1]}" ;;
     10) explain_plan "$first" ;;
-    *) say_at "$subject" "the program ended with status $status and gave no answer; it may have been stopped from outside" ;;
+    *) say_at "$subject" "the program ended with status $status$(signal_of "$status") and gave no answer; it may have been stopped from outside" ;;
+  esac
+}
+
+# of a program that a signal ended
+signal_of() {
+  local name
+  [ "$1" -gt 128 ] && name=$(kill -l $(($1 - 128)) 2>/dev/null) || return 0
+  case $name in
+    KILL) printf ' (killed, as where the machine has too little memory or a limit of time is over)' ;;
+    SEGV) printf ' (a fault of memory, as where ulimit -s allows less stack than 1024)' ;;
+    *) printf ' (signal %s)' "$name" ;;
   esac
 }
 
@@ -54,11 +65,18 @@ how_to_go_on() {
   local bound=--nodes
   [ -z "$seconds" ] || bound=--seconds
   case $1 in
-    "open nodes"*) echo "Give more $bound, or keep the search with --keep and go on with resume" ;;
+    "open nodes"*) echo "Give more $bound$(about_prices "$1"), or keep the search with --keep and go on with resume" ;;
     "open turns 200000"*) echo "The named ships were too hard to place together, by as many tries as may be asked for" ;;
     "open turns"*) echo "Give more --turns: the named ships were too hard to place together" ;;
     *) echo "Go on with resume" ;;
   esac
+}
+
+# A search of few steps goes without prices.
+about_prices() {
+  local used
+  read -r _ _ used _ <<<"$1"
+  [ "$used" -gt 1000 ] || [ "$command" = resume ] || echo " (above 1,000 nodes the search goes by prices, which show far more)"
 }
 
 explain_refused() {
@@ -72,14 +90,22 @@ explain_refused() {
 explain_line() {
   local sentence=
   if [ -n "$input" ]; then
-    sentence=$(awk -v number="$2" -v kind="$4" -v part="$1" -v with_plan="$(reads_plan "$command" && echo 1)" \
+    sentence=$(awk -v number="$2" -v kind="$4" -v part="$1" -v command="$command" -v with_plan="$(reads_plan "$command" && echo 1)" \
       -f "$script/nearest.awk" -f "$script/line.awk" "$input" 2>/dev/null)
+    sentence=$(with_lines "$sentence")
   fi
   sentence=${sentence:-$(sentence_of "$1 $4")}
   if [ "$1" = instance ] && [ -n "$second_name" ] && [ "$2" -gt "$first_lines" ]; then
     sentence="$first_name has no line end, so the plan was read as a part of it."
   fi
   say_at "$(place_of "$2")" "fault $3 $4: $sentence"
+}
+
+# a sentence in which numbers of lines stand between two signs of code 1, with the lines as they were given
+with_lines() {
+  local sentence=$1
+  while [[ $sentence =~ $'\001'([0-9]+)$'\001' ]]; do sentence=${sentence/"${BASH_REMATCH[0]}"/$(line_number "${BASH_REMATCH[1]}")}; done
+  printf '%s' "$sentence"
 }
 
 explain_unfit() {

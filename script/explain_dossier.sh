@@ -2,10 +2,14 @@
 
 explain_dossier() {
   case $1 in
-    "dossier fault 1 "*) explain_line instance "${parts[5]}" "${parts[7]}" "${parts[8]}" ;;
+    "dossier fault 1 "*)
+      explain_line instance "${parts[5]}" "${parts[7]}" "${parts[8]}"
+      # Of a pipe the script keeps no dossier to look at.
+      [ -n "$input" ] || [ "${parts[8]}" != NoHeader ] || say "perhaps what stands before this command in the pipe made no dossier"
+      ;;
     "dossier fault 4 "*) say_at "$first_name" "fault 4 Shape: $(sentence_of "shape ${parts[5]}")" ;;
     "dossier fault "*)
-      say_at "$first_name" "fault ${parts[2]} ${parts[3]}: $(sentence_of "dossier ${parts[3]}")$(other_kind)"
+      say_at "$first_name" "fault ${parts[2]} ${parts[3]}: $(sentence_of "dossier ${parts[3]}$(form_of_dossier)")$(other_kind)$(second_file)"
       ;;
     "rejected "*) explain_rejection "$1" ;;
   esac
@@ -15,6 +19,16 @@ explain_dossier() {
 explain_rejection() {
   local place=${1#rejected } reason=${1##* }
   say_at "$first_name" "rejected at ${place%% reason *}: $(sentence_of "rejected $reason") Nothing is shown by this dossier."
+}
+
+# which form of a dossier the command reads, for the sentence on its line
+form_of_dossier() {
+  [ "${parts[3]}" != NoMark ] || { if [ "$command" = check ]; then echo " whole"; else echo " open"; fi; }
+}
+
+# what was read as a part of a dossier
+second_file() {
+  [ -z "$second_name" ] || printf ' A dossier is given alone, and %s was read as a part of it.' "$second_name"
 }
 
 # A whole dossier and an open one are easily mixed up, and an instance alone is none.

@@ -14,6 +14,7 @@ take_input() {
   is_named=true
   if [ ${#files[@]} = 0 ]; then is_named=false; fi
   if [ "${files[*]}" = - ]; then files=(); fi
+  if [ "${files[*]}" = "- -" ]; then say "standard input can be read once, so - may stand for one of the two files"; return 2; fi
   for file in "${files[@]}"; do
     [ "$file" != - ] || continue
     [ -d "$file" ] && { say "$file is a folder"; return 66; }
@@ -66,13 +67,16 @@ name_of() { if [ "$1" = - ]; then echo "standard input"; else echo "$1"; fi; }
 join_file() {
   local before most=$most_kept
   before=$(wc -c <"$input")
-  if reads_dossier "$command"; then most=$((most_joined + 1)); fi
+  if reads_dossier "$command" || has_certificate "$1"; then most=$((most_joined + 1)); fi
   if [ "$1" = - ]; then head -c $most; else head -c $most "$1"; fi >>"$input"
   if reads_dossier "$command" && [ $(($(wc -c <"$input") - before)) -eq $most ]; then
     say "$(name_of "$1") has more than $most_joined bytes; join the two files and give one"
     return 66
   fi
 }
+
+# Of a dossier in the place of a plan the program gets the plan alone.
+has_certificate() { [ -f "$1" ] && reads_plan "$command" && grep -aq -m 1 '^certificate' "$1"; }
 
 # An instance on standard input is kept, so that messages can speak of its lines. What is over the program's limit is
 # left unread, as the program leaves it; only of a dossier the program reads what follows too. Where standard input fails

@@ -1,5 +1,6 @@
 # Says what is wrong with one line of an instance or a plan text, where its words tell it; else nothing.
-# `number` is the line, `kind` the name of its fault, and `part` the text in which it is: instance or plan.
+# `number` is the line, `kind` the name of its fault, and `part` the text in which it is: instance or plan. Other lines of the
+# text that a sentence names stand between two signs of code 1.
 
 BEGIN {
   # the words of each kind of line, after its first one
@@ -42,6 +43,8 @@ BEGIN {
 
   beginnings["instance"] = "chamber, ship, close (with `glock 2` or `glock 3`) or end"
   beginnings["plan"] = "lockage, berth or end"
+  words["instance"] = "chamber ship close end"
+  words["plan"] = "lockage berth end"
 
   few = 24
   many["chamber"] = "4 chamber lines"
@@ -59,16 +62,31 @@ function number_word(name, means, from, to) {
 
 { sub(/\r$/, ""); sub(/#.*/, "") }
 
+wants_certificate { if ($1 == "certificate") is_dossier = 1; next }
+NR < number && NF == 1 && $1 == "end" { ends++; last = NR }
+NR < number && $1 == "close" { closures++; chamber_of[closures] = $2; from[closures] = $3 + 0; to[closures] = $4 + 0; row[closures] = NR }
+NR < number && $1 == "lockage" { lockage = NR }
+NR < number && $1 == "berth" { berth_of[lockage " " $2] = NR }
 NR < number && $1 == "glock" && $2 == 3 { many["ship"] = "96 ship lines" }
 NR < number && $1 == "ship" && ++ships > few { many["lockage"] = ships " lockages, as many as there are ships" }
 NR < number && ($1 == "chamber" || $1 == "ship") {
   line_of[$1 " " $2] = NR
   names_of[$1] = names_of[$1] " " $2
 }
+# What follows tells a dossier from a lock's file that is given twice.
+NR == number && kind == "NoMark" && $1 == "glock" { wants_certificate = 1; next }
 NR == number { print sentence(); exit }
 
 # the text ends before the line that is wanted
-END { if (NR < number && kind == "NoMark") print no_plan() }
+END {
+  if (wants_certificate) print is_dossier ? "here is a dossier, whose chambers and ships come a second time; give it alone." : twice_given()
+  else if (NR < number && kind == "NoMark") print no_plan()
+  else if (NR < number && kind == "NoHeader") print "there is nothing to read but empty lines and notes."
+}
+
+function at_line(line) { return "in line \001" line "\001" }
+
+function twice_given() { return "here the chambers and the ships come a second time; the plan's file is wanted." }
 
 function sentence() {
   if (kind == "NoHeader") return no_instance()
@@ -79,11 +97,12 @@ function sentence() {
   if (kind == "Range") return first_out_of_range()
   if (kind == "Name") return no_name($2)
   if (kind == "Twice" && ($1 " " $2) in line_of)
-    return "the name " $2 " is given in line " line_of[$1 " " $2] " already; each " $1 " has its own name."
+    return "the name " $2 " is given " at_line(line_of[$1 " " $2]) " already; each " $1 " has its own name."
   if (kind == "TurnOverPass")
     return "the empty turn of " $10 " minutes is longer than the passage of " $9 "; perhaps the two numbers are swapped."
-  if (kind == "Overlap" && $3 + 0 >= $4 + 0)
-    return "the closure begins at minute " $3 " and ends at minute " $4 "; it must end after it begins."
+  if (kind == "Twice" && part == "plan")
+    return $2 " has a berth in this lockage already, " at_line(berth_of[lockage " " $2]) "; leave one of the two."
+  if (kind == "Overlap") return overlap()
   if (kind == "Unknown") return first_unknown()
   if (kind == "Host") return $6 " has no berth in this lockage, and " $2 " is to moor at it; give it one, or write * for the quay."
   return ""
@@ -91,18 +110,36 @@ function sentence() {
 
 # where the instance must begin and something else does
 function no_instance() {
-  if ($1 ~ /^\357\273\277/) return "the file begins with a hidden mark of three bytes; save it as UTF-8 without a byte order mark."
+  if ($1 ~ /^\357\273\277/) return hidden_mark()
+  if (!NF) return "there is nothing to read but empty lines and notes."
+  if (/\r/) return "the lines end in carriage returns alone; save the file with line feeds."
+  if (/[,;\t].*[,;\t]/ && /[Ll]ength/) return "this is a table of ships; examples/lock_of_csv.awk makes a lock's file of it."
+  if ($1 == "certificate") return "this is a certificate without its chambers and ships, which come first."
   if ($1 == "plan" && !with_plan) return "this is a plan; the file with the chambers and the ships is wanted, and no plan."
   if ($1 == "plan") return "a plan begins here; the file with the chambers and the ships comes first, and the plan after it."
-  return is_report() ? "this is a report; the file with the chambers and the ships is wanted." : ""
+  if (is_report()) return "this is a report; the file with the chambers and the ships is wanted."
+  if (tolower($1) == "glock" && $1 != "glock") return "\"" $1 "\" must be written in small letters: glock."
+  return "\"" $1 (NF > 1 ? " " $2 : "") (NF > 2 ? " .." : "") "\" stands where `glock 1` must stand, or `glock 2` where there are closures or cargo classes, or `glock 3` where there are more than 24 ships."
 }
+
+function hidden_mark() { return "the file begins with a hidden mark of three bytes; save it as UTF-8 without a byte order mark." }
 
 # where the plan must begin and something else does
 function no_plan() {
-  if ($1 == "certificate") return "a certificate begins here and no plan; check, lower, resume and picture read dossiers."
-  if ($1 == "glock") return "here the chambers and the ships come a second time; the plan's file is wanted."
+  if ($1 == "certificate") return "a certificate begins here and no plan; a dossier is given alone, or as the second file."
+  if ($1 ~ /^\357\273\277/) return hidden_mark()
+  if (tolower($1) == "plan" && NF == 1) return "\"" $1 "\" must be written in small letters: plan."
   if (is_report()) return "this is a report, of which no plan could be made."
-  return NR == number && NF ? "" : "nothing follows the chambers and the ships; a plan is wanted too, as a second file or behind them."
+  if (NR == number && NF) return "\"" $1 "\" stands where the line `plan` must stand, after the instance's line end; of two files the plan's is the second."
+  return "nothing follows the chambers and the ships; a plan is wanted too, as a second file (or - for standard input) or behind them."
+}
+
+# a closure that doesn't end after it begins, or the one above that it meets
+function overlap(    i) {
+  if ($3 + 0 >= $4 + 0) return "the closure begins at minute " $3 " and ends at minute " $4 "; it must end after it begins."
+  for (i = 1; i <= closures; i++)
+    if (chamber_of[i] == $2 && from[i] < $4 + 0 && $3 + 0 < to[i])
+      return "the closure shares minutes with that " at_line(row[i]) ", from " from[i] " to " to[i] "; make one of the two."
 }
 
 function is_report() { return ($1 == "optimal" || $1 == "open" || $1 == "legal") && $(NF - 1) == "cost" }
@@ -120,10 +157,12 @@ function no_name(word) {
 }
 
 function first_wrong_choice(    names, i, parts) {
-  if ($1 == "plan") return "the plan begins here, and the line end before it is missing."
+  if (ends && part == "instance") return after_end()
+  if (ends > 1) return "the line end is " at_line(last) ", and nothing may follow it; put this line before."
+  if ($1 == "plan" || $1 == "certificate") return "the " $1 " begins here, and the line end before it is missing."
   if (tolower($1) != $1 && tolower($1) in count) return "\"" $1 "\" must be written in small letters: " tolower($1) "."
   if ($1 == "") return ""
-  if (!($1 in form)) return "no line may begin with \"" $1 "\" here; lines begin with " beginnings[part] "." meant_line()
+  if (index(" " words[part] " ", " " $1 " ") == 0) return "no line may begin with \"" $1 "\" here; lines begin with " beginnings[part] "." meant_line()
   split(form[$1], names, " ")
   for (i = 1; i < NF; i++)
     if (names[i] in choice) {
@@ -167,9 +206,15 @@ function with_commas(whole,    text) {
 }
 
 function first_unknown() {
-  if ($1 == "close" || $1 == "lockage") return "there is no chamber named " $2 " above" perhaps($2, names_of["chamber"]) "."
+  if ($1 == "close" || $1 == "lockage") return "there is no chamber named " $2 " above" perhaps($2, names_of["chamber"]) "." of_failure()
+  if ($1 == "berth" && tolower($6) ~ /^(quay|left|right|-|none)$/ && ("ship " $2) in line_of) return "\"" $6 "\" is no ship; write * for the quay."
   if (!(("ship " $2) in line_of)) return "there is no ship named " $2 " in the instance" perhaps($2, names_of["ship"]) "."
   return $1 == "berth" ? "there is no ship named " $6 " in the instance" perhaps($6, names_of["ship"]) "." : ""
+}
+
+# of a chamber that is no more
+function of_failure() {
+  return $1 == "lockage" && command == "replan" ? " A chamber that fails keeps its line in the lock's file, and a line close says from when to when." : ""
 }
 
 function perhaps(word, list,    near) {
@@ -177,7 +222,16 @@ function perhaps(word, list,    near) {
   return near == "" ? "" : "; perhaps " near " is meant"
 }
 
+# what follows the line end of a lock's file
+function after_end() {
+  if ($1 == "certificate") return "a certificate begins here, so this is a dossier; the chambers and the ships alone are wanted."
+  if ($1 == "plan" || is_report()) return "a plan begins here, which judge, play, picture and replan read; the chambers and the ships alone are wanted."
+  if ($1 == "glock") return "a second lock's file begins here, and one is wanted."
+  return "the line end is " at_line(last) ", and nothing may follow it; put this line before."
+}
+
 function meant_line(    near) {
-  near = nearest($1, part == "plan" ? "lockage berth end" : "chamber ship close end")
+  if ($1 ~ /^[a-z]+[,;]/) return " Words are separated by spaces."
+  near = nearest($1, words[part])
   return near == "" ? "" : " Perhaps " near " is meant."
 }

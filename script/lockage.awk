@@ -1,5 +1,6 @@
-# Finds lockage `number` of the plan after the instance: its line, a tab and what a sentence on its break may add, with
-# the numbers that are wanted and found. `first` and `second` are the ships that the break names.
+# Finds lockage `number` of the plan after the instance (with time_of_day.awk): its line, or that of the berth that its break names;
+# `kept` where it starts before minute `kept_before`, else -; and what a sentence on the break may add, with the numbers that are
+# wanted and found. Tabs stand between the three. `first` and `second` are the ships that the break names.
 
 { sub(/\r$/, ""); sub(/#.*/, "") }
 
@@ -24,15 +25,28 @@ in_plan && $1 == "berth" { end_of[lockages] += handling[$2] }
 
 in_plan && $1 == "berth" && lockages == number {
   ships++
-  x[$2] = $3 + 0; y[$2] = $4 + 0; rank[$2] = $5
-  if (arrival[$2] > start) late = late "; " $2 " arrives at minute " arrival[$2]
+  x[$2] = $3 + 0; y[$2] = $4 + 0; rank[$2] = $5; row[$2] = NR
+  if (arrival[$2] > start) late = late "; " $2 " arrives at " at(arrival[$2])
   if (way[$2] != way_given) other = other ($2 " goes " way[$2] ". ")
 }
 
-END { print line "\t" added() }
+END {
+  if (kind == "Outside" || kind == "Adrift" || kind == "BadHost") line = row[first]
+  if (kind == "Touching" || kind == "Clash") line = row[second]
+  is_kept = kept_before != "" && start < kept_before && (kind == "Early" || kind == "Soon" || kind == "Shut")
+  print line "\t" (is_kept ? "kept" : "-") "\t" added() (is_kept ? stays() : "")
+}
+
+# what has begun can't be moved
+function stays() {
+  return " It starts before " at(kept_before) ", so it has begun and stays" (kind == "Shut" ? "; a closure may begin at " at(end_of[number]) ", where it ends." : \
+    kind == "Early" ? "; then the arrival, or the minute of replan, is wrong." : ".")
+}
+
+function at(minute) { return begin == "" ? "minute " minute : time_of_day(minute) }
 
 function added() {
-  if (kind == "Early") return "It starts at minute " start late "."
+  if (kind == "Early") return "It starts at " at(start) late "."
   if (kind == "Shape" && ships > takes[chamber]) return "It has " ships " ships, and " chamber " takes " takes[chamber] "."
   if (kind == "Shape") return ships ? other : "It has no ship."
   if (kind == "Outside") return outside()
@@ -54,8 +68,8 @@ function outside() {
 }
 
 function touching() {
-  return "Along the chamber " apart(x[first], far(first), x[second], far(second)) " and " gap[chamber] " wanted; across it " \
-    apart(y[first], across(first), y[second], across(second)) " and " side[chamber] " wanted."
+  return "Along the chamber " apart(x[first], far(first), x[second], far(second)) ", where a gap of " gap[chamber] " is wanted; across it " \
+    apart(y[first], across(first), y[second], across(second)) ", where one of " side[chamber] " is wanted."
 }
 
 # how far two spans lie from one another
@@ -90,13 +104,13 @@ function soon(    last, free, stood, needed, ready, why) {
   free = last ? end_of[last] : opens[chamber]
   stood = last ? (way_of[last] == "up" ? "high" : "low") : stands[chamber]
   needed = way_given == "up" ? "low" : "high"
-  why = last ? "lockage " last " before it ends at minute " free : "it opens at minute " free
+  why = last ? "lockage " last " before it ends at " at(free) : "it opens at " at(free)
   ready = free
   if (stood != needed) {
     ready = free_from(free, turn[chamber]) + turn[chamber]
     why = why " at " stood ", and the empty turn takes " turn[chamber] (ready > free + turn[chamber] ? " and waits for a closure" : "")
   }
-  return "It starts at minute " start "; " chamber " is ready at minute " ready ": " why "."
+  return "It starts at " at(start) "; " chamber " is ready at " at(ready) ": " why "."
 }
 
 # the least minute from this one on at which so many minutes meet no closure
@@ -109,6 +123,6 @@ function free_from(minute, much,    i) {
 function shut(    i) {
   for (i = 1; i <= closures[chamber]; i++)
     if (start < to[chamber, i] && from[chamber, i] < end_of[number])
-      return "It lasts from minute " start " to " end_of[number] "; " chamber " is closed from " from[chamber, i] " to " to[chamber, i] "."
+      return "It lasts from " at(start) " to " time_of_day(end_of[number]) "; " chamber " is closed from " time_of_day(from[chamber, i]) " to " time_of_day(to[chamber, i]) "."
   return ""
 }

@@ -7,9 +7,10 @@ BEGIN {
   }
 }
 
-# the word of the list that is so near that it may have been meant, or nothing
+# the word of the list that is so near that it may have been meant, or nothing: one that it begins, or that differs by few letters
 function nearest(word, list,    words, n, i, far, least, found) {
   n = split(list, words, " ")
+  if (length(word) > 2) for (i = 1; i <= n; i++) if (index(words[i], word) == 1) return words[i]
   least = length(word) < 4 ? 2 : 3
   for (i = 1; i <= n; i++) {
     far = distance(tolower(word), tolower(words[i]))

@@ -30,7 +30,7 @@ choose_program() {
   local newer reason
   if [ -n "${GLOCK_PROGRAM-}" ]; then
     run=("$GLOCK_PROGRAM")
-    [ -x "$GLOCK_PROGRAM" ] || { say "GLOCK_PROGRAM names no program: $GLOCK_PROGRAM"; return 69; }
+    [ -f "$GLOCK_PROGRAM" ] && [ -x "$GLOCK_PROGRAM" ] || { say "GLOCK_PROGRAM names no program: $GLOCK_PROGRAM"; return 69; }
     return
   fi
   run=("$program")

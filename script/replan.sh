@@ -15,6 +15,7 @@ take_rest() {
   else
     given_plan=$room/given.plan
     take_rest_minute
+    warn_of_later_plan
     may_drop || return
   fi
   if [ ${#drops[@]} -gt 0 ] || { [ $lived != false ] && has_notes; }; then change_input "$end"; fi
@@ -34,9 +35,17 @@ take_rest_minute() {
   done
 }
 
+# A plan text of replan tells of which minute it is.
+warn_of_later_plan() {
+  local later
+  later=$(sed -n -E 's/^# .*, replanned at minute ([0-9]+)$/\1/p;q' "$given_plan")
+  [ -n "$later" ] && [ "$later" -gt "$rest_minute" ] || return 0
+  say_at "${second_name:-$first_name}" "warning: this plan is of $(shown_time "$later"), and is planned anew from $(shown_time "$rest_minute"), which is before that"
+}
+
 # the ships of the plan: name, line of its berth, line and start of its lockage, that it has begun or hasn't, how many
 # ships the lockage has, and the ship's line in the lock's file, or 0
-ships_of_plan() { awk -v minute="$rest_minute" -f "$script/plan_ships.awk" "$input"; }
+ships_of_plan() { awk -v minute="${rest_minute-0}" -f "$script/plan_ships.awk" "$input"; }
 
 # whether each ship of --drop stands in the plan, not in the lock's file, and in no lockage that has begun
 may_drop() {
@@ -67,9 +76,9 @@ say_begun() {
 }
 
 shown_time() {
-  local all
-  if [ -z "$clock" ]; then echo "minute $1"; return; fi
-  all=$(($(minutes_of_time "$clock") + $1))
+  local all begin=${clock:-${shown_clock-}}
+  if [ -z "$begin" ]; then echo "minute $1"; return; fi
+  all=$(($(minutes_of_time "$begin") + 10#$1))
   if [ $all -ge 1440 ]; then printf '+%d ' $((all / 1440)); fi
   printf '%02d:%02d\n' $((all % 1440 / 60)) $((all % 60))
 }

@@ -15,7 +15,7 @@ run_program() {
   trap 'stop_program TERM' TERM
   trap 'stop_program HUP' HUP
   start_watch
-  wait "$running"
+  wait "$running" 2>/dev/null
   status=$?
   end_watch
   trap - INT TERM HUP

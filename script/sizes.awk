@@ -9,7 +9,7 @@ $1 == "ship" && (NF == 7 || NF == 8) { look($1, $2, $4, $5); look_at_times() }
 
 # Few vessels that pass a lock are under five metres long or under two metres wide.
 function look(what, name, long, wide) {
-  if (long !~ /^[0-9]+$/ || wide !~ /^[0-9]+$/) return
+  if (long !~ /^[0-9]+$/ || wide !~ /^[0-9]+$/ || long * wide == 0) return
   if (long < 50 || wide < 20)
     warn(what " " name " is " long " long and " wide " wide, which looks like metres; sizes are decimetres, ten to a metre.")
   else if (wide + 0 > long + 0)

@@ -91,7 +91,7 @@ function kind_of(number) {
 function tell(what, text) { printf "%-11s %s\n", what, text }
 
 END {
-  if (keys < 4) exit 1
+  if (keys < 4) exit is_certificate ? 2 : 1
   tell("dossier", (is_open ? "open" : "whole") ", version " version)
   # no comma follows the last part
   tell("bytes", bytes - 1)

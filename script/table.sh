@@ -17,7 +17,7 @@ table() {
     rows+=("$(row_of_day "$file")")
     [[ ${rows[-1]} =~ $'\t'(optimal|legal)$'\t' ]] || open=1
   done
-  printf '%s\n' "${rows[@]}" | awk -F '\t' -v csv=$is_csv -f "$script/table_lines.awk" || return 5
+  printf '%s\n' "${rows[@]}" | awk -F '\t' -v csv=$is_csv -f "$script/table_lines.awk" 2>/dev/null || { say "write fault: not all of the table could be written"; return 5; }
   return $open
 }
 
@@ -35,7 +35,11 @@ row_of_day() {
   local report=$1 row=
   if [[ $1 == *.lock ]]; then report=${1%.lock}.report; fi
   if [ -r "$report" ]; then row=$(awk -f "$script/table.awk" "$report"); fi
-  if [ -n "$row" ] && [ "$1" -nt "$report" ]; then say_at "$report" "warning: older than $1"; fi
+  if [ -z "$row" ] && [ -s "$report" ]; then
+    say_at "$report" "warning: no whole report, so its day counts as one without"
+  elif [ -n "$row" ] && [ "$1" -nt "$report" ]; then
+    say_at "$report" "warning: older than $1"
+  fi
   printf '%s\t%s' "$1" "${row:-no report$(printf '\t-%.0s' {1..7})}"
 }
 
@@ -45,6 +49,14 @@ changes() {
   [ $# = 2 ] || { say "changes needs two reports or plans, the old one and the new one"; return 2; }
   for file in "$@"; do can_be_read "$file" || return; done
   awk -v first="$1" -v second="$2" -f "$script/time_of_day.awk" -f "$script/changes.awk" </dev/null
+  case $? in
+    0) return ;;
+    1) say_at "$1" "this is no report and no plan: it has no lockage" ;;
+    2) say_at "$2" "this is no report and no plan: it has no lockage" ;;
+    3) say "one of $1 and $2 has times of day and the other minutes; make both reports with --clock, or both without" ;;
+    *) return 5 ;;
+  esac
+  return 10
 }
 
 # stats DOSSIER; without it, or as -, standard input
@@ -62,6 +74,7 @@ stats() {
   case $? in
     0) ;;
     1) say_at "$name" "this is no dossier: no certificate follows the instance's line end"; return 7 ;;
+    2) say_at "$name" "this dossier is damaged or cut off: its certificate has not all its parts"; return 7 ;;
     *) return 5 ;;
   esac
 }

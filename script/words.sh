@@ -12,7 +12,7 @@ split_words() {
   # A report may have been made by the same clock.
   plan_clock=$clock
   # Of the commands, those that print minutes take --clock.
-  if [ -n "$clock" ] && ! { reads_instance "$command" && is_time_of_day "$clock"; }; then
+  if [ -n "$clock" ] && ! { takes_clock "$command" && is_time_of_day "$clock"; }; then
     program_words+=(--clock "$clock")
     clock=
   fi
@@ -40,6 +40,22 @@ take_minutes() {
       --from=* | --now=*) program_words[i]=${program_words[i]%%=*}=$(minute_of "${program_words[i]#*=}") ;;
       --from | --now) [ -z "${program_words[i + 1]-}" ] || program_words[i + 1]=$(minute_of "${program_words[i + 1]}") ;;
     esac
+  done
+}
+
+# whether a minute of --from or --now looks like a time of day without its colon
+warn_of_minute() {
+  local i text
+  [ -n "${clock:-${shown_clock-}}" ] && [ -z "$wrong" ] || return 0
+  for ((i = 0; i < ${#program_words[@]}; i++)); do
+    case ${program_words[i]} in
+      --from | --now) text=${program_words[i + 1]} ;;
+      --from=* | --now=*) text=${program_words[i]#*=} ;;
+      *) continue ;;
+    esac
+    if [[ $text =~ ^([01][0-9]|2[0-3])[0-5][0-9]$ ]]; then
+      say "warning: ${program_words[i]%%=*} $text is minute $((10#$text)), which is $(shown_time "$text"); the time of day is written ${text:0:2}:${text:2}"
+    fi
   done
 }
 

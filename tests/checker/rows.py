@@ -486,7 +486,8 @@ def main():
             if found != told:
                 different += 1
                 print(f"row {number}: {old!r} by {new[:60]!r}: {found}, not {told}")
-    assert as_process(OPEN.encode(), "--open") == ("lower 80 cost 120\n", 1)
+    assert as_process(OPEN.encode(), "--open") == as_process(OPEN.encode(), "-", "--open") == ("lower 80 cost 120\n", 1)
+    assert as_process(b"", str(CHECKER / "nofile")) == as_process(b"", str(CHECKER)) == ("", 4)
     for dossier, old, new, line in LIMITED:
         data, told = dossier.replace(old, new, 1).encode(), (line, status_of(line))
         for found in (in_time(data), by_program(data, False) or told):

@@ -81,6 +81,8 @@ def difference(row):
     return f"{place}\n{wanted}status {ran.status}, output:\n{ran.text}\n" if missed else ""
 
 
+if len(sys.argv) < 2:
+    sys.exit("usage: run.py PROGRAM [FILE ..]")
 PROGRAM = os.path.abspath(sys.argv[1])
 files = [pathlib.Path(file) for file in sys.argv[2:]] or sorted(pathlib.Path(__file__).parent.glob("*.rows"))
 rows = [row for file in files for row in rows_of(file, CHECKS)]

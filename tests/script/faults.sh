@@ -1,5 +1,7 @@
 # Each fault, break and reason has its sentence, with the file and the line.
 
+cp "$room/evening.lock" "$room/-x.lock"
+
 # words, and a part of the message
 bad_words() {
   call $1
@@ -60,7 +62,22 @@ lot -o | -o needs the name of a file
 lot --output | -o needs the name of a file
 lot -ox --output=y | -o needs the name of a file after it, and may stand once
 lot --clock 10:00 | --clock is for solve
-solve --clock 24:00 | --clock needs a time of day
+solve --clock 24:00 | --clock needs a time of day after it, such as 06:00, from 00:00 to 23:59, and not "24:00"
+solve --clock | --clock needs a time of day after it, such as 06:00, from 00:00 to 23:59
+solve --clock 17:00 --clock 18:00 | --clock may stand once
+check --clock 17:00 | --clock is for solve, resume, judge, play, replan and picture, and not for check
+evening.lock | the command is missing before the file "evening.lock", as in ./glock solve evening.lock
+version | perhaps --version is meant
+res | perhaps resume is meant
+solve evening | there is no file "evening"; perhaps evening.lock is meant
+solve evenning.lock | there is no file "evenning.lock"; perhaps evening.lock is meant
+solve evening.lock 17:00 | "17:00" is one too many; a time of day follows --clock
+solve evening.lock --dossier x | "x" is one too many; -o x writes the answer to that file
+solve -clock 17:00 | "-clock" is no option; options begin with two dashes; perhaps --clock is meant
+solve --out x | there is no option --out; perhaps --output is meant
+solve -x.lock | "-x.lock" begins with a dash, as options do; ./-x.lock names the file
+replan evening.lock evening.plan --now 9:30 --clock 06:00 | and not "9:30"; with --clock it takes a time of day too, such as 09:30
+replan evening.lock evening.plan --now 5 --drop gull iris | "iris" is one file too many; each ship has a --drop of its own, as in --drop gull --drop iris
 ROWS
 
 # an edit of evening.lock, the program's words, and a part of the sentence
@@ -73,7 +90,7 @@ faulty_instance() {
 }
 rows faulty_instance <<'ROWS'
 4s/alva/\xff/ | line 4 fault 1 NotUtf8 | this line holds a byte that is no text
-1s/1/4/ | line 1 fault 2 NoHeader | the first line must be `glock 1`, `glock 2` where there are closures or cargo classes, or `glock 3` where there are more than 24 ships.
+1s/1/4/ | line 1 fault 2 NoHeader | "glock 4" stands where `glock 1` must stand, or `glock 2` where there are closures or cargo classes, or `glock 3` where there are more than 24 ships.
 1s/^/\xef\xbb\xbf/ | line 1 fault 2 NoHeader | the file begins with a hidden mark
 4s/ship/boat/ | line 4 fault 3 Word | no line may begin with "boat" here; lines begin with chamber, ship,
 4s/ship/Ship/ | line 4 fault 3 Word | "Ship" must be written in small letters: ship
@@ -96,6 +113,20 @@ s/$/\r/;9s/ 5\r/\r/ | line 9 fault 4 Count | this line has 6 words
 4s/alva/MS alva/ | line 4 fault 4 Count | this line has 8 words; a ship line has 7 words: ship, name, up or down, length, width, arrival, handling; with `glock 2` or `glock 3` a cargo class may follow. A name is one word, such as MS_alva.
 5s/brio/alva/ | line 5 fault 8 Twice | the name alva is given in line 4 already
 2s/30 15/15 30/ | line 2 fault 9 TurnOverPass | the empty turn of 30 minutes is longer than the passage of 15
+1s/1/1.0/ | line 1 fault 2 NoHeader | "glock 1.0" stands where `glock 1` must stand
+1s/glock/GLOCK/ | line 1 fault 2 NoHeader | "GLOCK" must be written in small letters: glock.
+1d | line 1 fault 2 NoHeader | "chamber main .." stands where `glock 1` must stand
+d | line 1 fault 2 NoHeader | there is nothing to read but empty lines and notes.
+s/.*/#/ | line 14 fault 2 NoHeader | there is nothing to read but empty lines and notes.
+1s/.*/name,way,length,width,arrival/ | line 1 fault 2 NoHeader | this is a table of ships; examples/lock_of_csv.awk makes a lock's file of it.
+4s/ /;/g | line 4 fault 3 Word | no line may begin with "ship;alva;up;1100;114;0;5" here; lines begin with chamber, ship, close (with `glock 2` or `glock 3`) or end. Words are separated by spaces.
+$s/$/\nship late up 500 60 0 5/ | line 14 fault 3 Word | the line end is in line 13, and nothing may follow it; put this line before.
+$s/$/\nplan/ | line 14 fault 3 Word | a plan begins here, which judge, play, picture and replan read
+$s/$/\nglock 1/ | line 14 fault 3 Word | a second lock's file begins here
+$s/$/\ncertificate/ | line 14 fault 3 Word | a certificate begins here, so this is a dossier
+$s/end/plan/ | line 13 fault 3 Word | the plan begins here, and the line end before it is missing.
+1s/1/2/;4s/^/close main 10 30\nclose main 20 40\n/ | line 5 fault 14 Overlap | the closure shares minutes with that in line 4, from 10 to 30
+4s/ship/lockage/ | line 4 fault 3 Word | no line may begin with "lockage" here
 2,3d | line 11 fault 10 NoChamber | the lock has no chamber
 4,12d | line 4 fault 11 NoShip | there is no ship
 13d | line 13 fault 12 NoEnd | the text stops without its last line
@@ -127,9 +158,15 @@ faulty_plan() {
 }
 rows faulty_plan <<'ROWS'
 4s/alva/\xff/ | plan line 4 fault 1 NotUtf8 | this line holds a byte that is no text
-2d | plan line 2 fault 2 NoMark | the plan must begin
+2d | plan line 2 fault 2 NoMark | "lockage" stands where the line `plan` must stand, after the instance's line end; of two files the plan's is the second.
 2s/plan/legal cost 270/ | plan line 2 fault 2 NoMark | this is a report, of which no plan could be made
 2s/plan/glock 1/ | plan line 2 fault 2 NoMark | here the chambers and the ships come a second time
+2s/plan/Plan/ | plan line 2 fault 2 NoMark | "Plan" must be written in small letters: plan.
+2s/^/\xef\xbb\xbf/ | plan line 2 fault 2 NoMark | the file begins with a hidden mark of three bytes
+2s/plan/lockage main up 0/ | plan line 2 fault 2 NoMark | "lockage" stands where the line `plan` must stand
+4s/berth/ship/ | plan line 4 fault 3 Word | no line may begin with "ship" here; lines begin with lockage, berth or end.
+4s/\*/quay/ | plan line 4 fault 7 Unknown | "quay" is no ship; write * for the quay.
+$s/$/\nlockage main up 900/ | plan line 21 fault 3 Word | the line end is in line 20, and nothing may follow it
 2s/plan/certificate/ | plan line 2 fault 2 NoMark | a certificate begins here and no plan
 3s/lockage/passage/ | plan line 3 fault 3 Word | no line may begin with "passage" here; lines begin with lockage,
 4s/left/port/ | plan line 4 fault 3 Word | "port" stands where left or right must stand
@@ -140,7 +177,7 @@ rows faulty_plan <<'ROWS'
 3s/main/Main/ | plan line 3 fault 7 Unknown | there is no chamber named Main above; perhaps main is meant.
 4s/alva/alwa/ | plan line 4 fault 7 Unknown | there is no ship named alwa in the instance; perhaps alva is meant.
 9s/cora/kora/ | plan line 9 fault 7 Unknown | there is no ship named kora
-4p | plan line 5 fault 8 Twice | this ship has a berth in this lockage already
+4p | plan line 5 fault 8 Twice | alva has a berth in this lockage already, in line 4; leave one of the two.
 3d | plan line 3 fault 9 Loose | a berth comes before the first lockage
 9s/cora/brio/ | plan line 9 fault 10 Host | brio has no berth in this lockage, and eddy is to moor at it
 20d | plan line 20 fault 11 NoEnd | the plan stops without its last line
@@ -173,13 +210,13 @@ rows broken_plan <<'ROWS'
 3s/ 4 20/ 1 20/ | illegal lockage 3 Shape | It has 2 ships, and side takes 1
 20s/125/124/ | illegal lockage 3 Early | x.both:20: lockage 3 Early: the lockage starts before all its ships have arrived; start it later. It starts at minute 124; eddy arrives at minute 125
 17s/10/5/ | illegal lockage 1 Outside alva | It covers x 5 to 1105 and y 0 to 114; in main x may go from 10 to 1990 and y from 0 to 240.
-22s/100/50/ | illegal lockage 3 Touching cora eddy | Along the chamber they overlap by
-17s/ 0 / 10 / | illegal lockage 1 Adrift alva | Its y is 10.
+22s/100/50/ | illegal lockage 3 Touching cora eddy | x.both:22: lockage 3 Touching: cora and eddy lie too close or on one another; leave the gap along the chamber or the gap across it between them. Along the chamber they overlap by
+17s/ 0 / 10 / | illegal lockage 1 Adrift alva | x.both:17: lockage 1 Adrift: alva is to lie at the quay and does not; in the left rank y is 0, in the right rank y and its width together are the chamber's width. Its y is 10.
 22s/100/110/ | illegal lockage 3 BadHost eddy cora | eddy has y 110, and beside cora y 100 is wanted.
 1s/1/2/;6s/$/ 1/;8s/$/ 2/ | illegal lockage 3 Clash cora eddy | put them into different ones. cora has class 1, eddy class 2.
 18s/10/9/ | illegal lockage 2 Soon | It starts at minute 9; side is ready at minute 10: it opens at minute 0 at high, and the empty turn takes 10.
 1s/1/2/;3s/$/\nclose main 10 20/ | illegal lockage 1 Shut | It lasts from minute 0 to 35; main is closed from 10 to 20.
-32s/iris/gull/ | illegal ship gull Double | x.both: ship gull Double: gull is in more than one lockage
+32s/iris/gull/ | illegal ship gull Double | x.both: ship gull Double: gull is in more than one lockage; leave it in one of them. Its berths are in lines 28 and 32.
 31,32d | illegal ship iris Missing | x.both: ship iris Missing: iris is in no lockage
 ROWS
 
@@ -206,8 +243,8 @@ bad_dossier() {
 }
 rows bad_dossier <<'ROWS'
 3s/1100/11oo/ | dossier fault 1 Instance line 3 fault 5 Number | :3: fault 5 Number: "11oo" stands for the length
-6s/$/ open/ | dossier fault 2 NoMark | : fault 2 NoMark: after the instance's line end
-6,7d | dossier fault 2 NoMark | : fault 2 NoMark: after the instance's line end this command wants another line: `certificate`, `certificate 2`, `certificate 3` or `certificate 4` for check, `certificate open`, `certificate open 3` or `certificate open 4` for lower and resume. Nothing follows that line
+6s/$/ open/ | dossier fault 2 NoMark | : fault 2 NoMark: after the instance's line end check wants a line `certificate`, `certificate 2`, `certificate 3` or `certificate 4`. This is an open dossier
+6,7d | dossier fault 2 NoMark | : fault 2 NoMark: after the instance's line end check wants a line `certificate`, `certificate 2`, `certificate 3` or `certificate 4`. Nothing follows that line
 7s/}$// | dossier fault 3 Json | : fault 3 Json: what follows
 7s/"cost"/"price"/ | dossier fault 4 Shape part 1 | : fault 4 Shape: the certificate must have the four entries
 7s/120/-1/ | dossier fault 4 Shape part 2 | : fault 4 Shape: the entry cost

@@ -46,7 +46,7 @@ judge evening.lock evening-early.plan | 10 | illegal lockage 3 Early | evening-e
 judge endless.lock evening.plan | 3 | line 14 fault 3 Word | evening.plan:2: fault 3 Word: endless.lock has no line end
 judge tail.lock bad.lock | 10 | plan line 3 fault 2 NoMark | bad.lock:1: fault 2 NoMark
 judge evening.lock long.plan | 3 | too long 131072 | evening.lock and long.plan together may have 131072 bytes at most
-picture evening.lock long.plan | 10 | fault 3 Word | fault 3 Word: no line may begin with "later" here
+picture evening.lock long.plan | 10 | fault 3 Word | fault 3 Word: the line end is in line 20, and nothing may follow it
 picture evening.lock huge.plan | 66 | | huge.plan has more than 16777216 bytes; join the two files and give one
 ROWS
 
@@ -186,6 +186,8 @@ cat "$room/evening.lock" "$room/2350.report" >"$room/both"
 sed '$d' "$room/1700.report" >"$room/cut.report"
 sed '/start 125/s/125/124/' "$room/plain.report" >"$room/early.report"
 sed 's/ 240 / 262 /' "$room/evening.lock" >"$room/now.lock"
+"$GLOCK_PROGRAM" solve --dossier --workers 1 <"$room/evening.lock" >"$room/evening.dossier"
+head -c 900 "$room/evening.dossier" >"$room/cut.dossier"
 as_plan() {
   call $1
   check "a report as a plan: $1" gives "$2" "$3" "${4-}"
@@ -195,16 +197,27 @@ judge evening.lock plain.report | 0 | legal cost 270
 judge evening.lock 1700.report | 0 | legal cost 270
 judge evening.lock 0600.report | 0 | legal cost 270
 judge evening.lock 2350.report | 0 | legal cost 270
-judge evening.lock 2350.report --clock 17:00 | 0 | legal cost 270
+judge evening.lock 2350.report --clock 17:00 | 0 | legal cost 270 | 2350.report: warning: by its ships' arrivals minute 0 is 23:50 in this report, and not 17:00
 judge evening.lock crlf.report | 0 | legal cost 270
 judge both | 0 | legal cost 270
-play evening.lock 2350.report --clock 17:00 | 0 | 17:00 main moor alva
+play evening.lock 2350.report --clock 23:50 | 0 | 23:50 main moor alva
 replan now.lock 1700.report --from 150 | 0 | optimal cost | gull: side 240 -> side 262
 picture evening.lock 1700.report | 0 | <h1>legal, total flow time 270 minutes</h1>
 judge evening.lock cut.report | 10 | NoMark | cut.report: this report can't be read as a plan: this is no whole report: it has no line end
 judge evening.lock early.report | 10 | illegal lockage 4 Early | early.report:
 judge evening.lock | 10 | NoMark | nothing follows the chambers and the ships; a plan is wanted too
 judge evening.lock evening.lock | 10 | NoMark | here the chambers and the ships come a second time; the plan's file is wanted
+judge evening.lock evening.dossier | 0 | legal cost 270
+judge evening.dossier | 0 | legal cost 270
+play evening.dossier --clock 17:00 | 0 | 17:00 main moor alva
+play two.open | 0 | 0 north moor
+replan now.lock evening.dossier --now 150 | 0 | optimal cost 277 | gull: side 240 -> side 262
+picture evening.lock evening.dossier | 0 | <h1>legal, total flow time 270 minutes</h1>
+judge now.lock evening.dossier | 10 | illegal lockage 6 Early | evening.dossier:15: lockage 6 Early
+judge cut.dossier | 10 | NoMark | cut.dossier: this dossier can't be read as a plan: its plan is damaged or cut off
+judge evening.dossier evening.plan | 10 | NoMark | evening.dossier:14: fault 2 NoMark: a certificate begins here and no plan; a dossier is given alone, or as the second file.
+judge - - | 2 | | standard input can be read once
+judge now.lock evening.plan --clock 17:00 | 10 | Early | It starts at 21:00; gull arrives at 21:22.
 judge evening.plan evening.lock | 3 | NoHeader | a plan begins here; the file with the chambers and the ships comes first
 ROWS
 
@@ -241,6 +254,7 @@ solve evening.lock --clock 06:00 | 0 | start 08:00 end 08:35
 solve evening.lock --clock=23:50 | 0 | start 23:50 end +1 00:25
 judge evening.lock evening.plan --clock 17:00 | 0 | start 17:00 end 17:35
 play evening.lock evening.plan --clock 17:00 | 0 | 17:10 side moor brio
+resume two.open --clock 06:00 | 0 | start 06:00 end 06:27
 picture evening.lock evening.plan --clock 17:00 | 0 | <p class="sub">from 17:00 to
 ROWS
 
@@ -288,7 +302,8 @@ rows stood_in <<'ROWS'
 4 | read fault | read fault: evening.lock could not be read
 5 | none | write fault: not all of the answer
 6 | no memory | no memory: this machine has too little free memory
-137 | none | the program ended with status 137
+137 | none | the program ended with status 137 (killed, as where the machine has too little memory
+139 | none | the program ended with status 139 (a fault of memory, as where ulimit -s allows less stack than 1024)
 ROWS
 
 # How many steps and tries the search gets where none are given: another stand-in says its words.

@@ -6,6 +6,8 @@ sed 's/ 240 / 262 /' "$room/evening.lock" >"$room/now.lock"
 sed '/^ship gull/d' "$room/now.lock" >"$room/less.lock"
 sed '/^ship gull/d; /^ship cora/d' "$room/now.lock" >"$room/fewer.lock"
 sed '/^ship eddy/d' "$room/now.lock" >"$room/early.lock"
+sed '1s/1/2/; 3s/$/\nclose side 130 400/' "$room/evening.lock" >"$room/shut.lock"
+sed '/^chamber side/d' "$room/evening.lock" >"$room/gone.lock"
 replanned() {
   call $1
   check "replan: $1" gives "$2" "$3" "${4-}"
@@ -17,8 +19,13 @@ replan now.lock evening.plan --now 150 | 0 | optimal cost 277 | dina: as before
 replan now.lock evening.plan --now 19:30 --clock 17:00 | 0 | start 21:22 end 21:47 | gull: side 21:00 -> side 21:22
 replan --now=19:30 --clock=17:00 now.lock 1700.report | 0 | start 21:22 end 21:47 | gull: side 21:00 -> side 21:22
 replan now.lock evening.plan --from 19:30 --clock 17:00 | 0 | start 21:22 end 21:47 | gull: side 21:00 -> side 21:22
-replan now.lock evening.plan --now +1 01:00 --clock 17:00 | 10 | illegal lockage 6 Early | gull arrives at minute 262
+replan now.lock evening.plan --now +1 01:00 --clock 17:00 | 10 | illegal lockage 6 Early | gull arrives at 21:22
 replan now.lock evening.plan --now=0 --clock 17:00 | 0 | optimal cost 277 | gull: 
+replan now.lock evening.plan --now 0150 --clock 17:00 | 0 | optimal cost 277 | warning: --now 0150 is minute 150, which is 19:30; the time of day is written 01:50
+replan now.lock evening.plan --now 250 --clock 17:00 | 10 | illegal lockage 6 Early | the lockage starts before all its ships have arrived. It starts at 21:00; gull arrives at 21:22. It starts before 21:10, so it has begun and stays
+replan shut.lock evening.plan --now 130 | 10 | illegal lockage 3 Shut | side is closed from 130 to 400. It starts before minute 130, so it has begun and stays; a closure may begin at minute 155, where it ends.
+replan gone.lock evening.plan --now 130 | 10 | plan line 5 fault 7 Unknown | there is no chamber named side above. A chamber that fails keeps its line
+replan evening.lock 1700.report --now 19:30 --clock 16:00 | 0 | optimal cost 270 | 1700.report: warning: by its ships' arrivals minute 0 is 17:00 in this report, and not 16:00
 replan less.lock evening.plan --now 150 | 10 | plan line 15 fault 7 Unknown | gull is in the plan and not in less.lock. Where gull is withdrawn say --drop gull, or take lines 14 and 15 out of evening.plan (the second alone, where the chamber was turned for this lockage)
 replan less.lock evening.plan --from 150 | 10 | plan line 15 fault 7 Unknown | or take lines 14 and 15 out of evening.plan
 replan less.lock 1700.report --from 150 | 10 | fault 7 Unknown | out of 1700.report
@@ -67,6 +74,7 @@ replan alone.lock still.report --now 105 | 0 | optimal cost 75 | c1: the empty t
 replan alone.lock still.plan --from 105 | 0 | optimal cost 75 | c1: empty turn at 35, for the lockage of 105
 play reverse.lock turned.plan | 0 | 70 c1 moor dora | c1 stands turned for ships going up, and is turned back at minute 55; no lockage needs this
 replan reverse.lock turned.plan --now 60 | 0 | optimal cost 85 | dora: as before
+replan alone.lock still.plan --now 90 | 0 | optimal cost 75 | still.plan: warning: this plan is of minute 100, and is planned anew from minute 90, which is before that
 play shut.lock still.plan | 10 | illegal lockage 1 Shut | still.plan:4: lockage 1 Shut
 ROWS
 

@@ -48,7 +48,7 @@ table --csv days | 1 | days/tuesday.lock,open,506,280,44.7,10,8,
 table --csv days | 1 | days/friday.lock,no report,,,,,,,
 table --csv days/monday.lock 2350.report judged.report | 0 | 2350.report,optimal,270,270,0.0,9,8,10,brio
 table --csv judged.report | 0 | judged.report,legal,270,,,9,8,10,brio
-table --csv cut.report | 1 | cut.report,no report
+table --csv cut.report | 1 | cut.report,no report | cut.report: warning: no whole report
 table | 2 | | table needs a folder with files such as monday.lock
 table --scv days | 2 | | table takes --csv, and the names of folders and files, and not "--scv"
 table nodays | 2 | | there is no file "nodays"
@@ -57,6 +57,9 @@ changes evening.plan evening-early.plan | 0 | 7 ships unchanged
 changes plain.report plain.report | 0 | 9 ships unchanged
 changes evening.plan | 2 | | changes needs two reports or plans
 changes evening.plan noplan | 2 | | there is no file "noplan"
+changes evening.plan evening.lock | 10 | | evening.lock: this is no report and no plan: it has no lockage
+changes evening.lock evening.plan | 10 | | evening.lock: this is no report and no plan: it has no lockage
+changes evening.plan 1700.report | 10 | | one of evening.plan and 1700.report has times of day and the other minutes
 stats two.dossier | 0 | dossier     whole, version 1
 stats two.dossier | 0 | cut 0       c1 row s1 s2
 stats spaced.dossier | 0 | bytes       418
@@ -69,12 +72,15 @@ stats triples.dossier | 0 | triples     2
 stats triples.dossier | 0 | nodes       1
 stats two.open | 0 | dossier     open, version 2
 stats plain.report | 7 | | plain.report: this is no dossier
+stats cut.dossier | 7 | | cut.dossier: this dossier is damaged or cut off
 stats two.open two.open | 2 | | stats takes the name of one dossier
 stats --csv | 2 | | stats takes the name of one dossier
 stats nodossier | 2 | | there is no file "nodossier"
 stats days | 66 | | days can't be read
 help table | 0 | ./glock table [--csv] FOLDER
 changes --help | 0 | ./glock changes OLD NEW
+changes -h | 0 | ./glock changes OLD NEW
+table days --help | 0 | ./glock table [--csv] FOLDER
 ROWS
 sed '/^berth iris/d' "$room/evening.plan" >"$room/less.plan"
 call changes "$room/evening.plan" "$room/less.plan"
@@ -103,6 +109,33 @@ name,length,width,arrival\nalva,110,11,0\n | 1 | | lock_of_csv: the first line n
 name,way,length,width,arrival\nalva,north,110,11,0\n | 1 | | line 2: the way must be up or down, and not "north"
 name,way,length,width,arrival\nalva,up,long,11,0\n | 1 | | line 2: the length must be metres, and not "long"
 name,way,length,width,arrival\nalva,up,110,11,noon\n | 1 | | line 2: the arrival must be HH:MM or a minute, and not "noon"
+name,way,length,width,arrival\nalva,up,110,11,17:65\n | 1 | | line 2: the arrival must be HH:MM or a minute, and not "17:65"
+name,way,length,width,arrival\nalva,up,110,11,17:25:30\n | 0 | ship alva up 1100 110 26 0
+name,way,length_m,width (m),arrival,handling [min]\nalva,up,110,11,17:25,5\n | 0 | ship alva up 1100 110 25 5
+name,way,length of stay,width,arrival\nalva,up,110,11,17:25\n | 1 | | the first line names no column length
+name,way,length,width,arrival\nÎle de Ré,up,110,11,17:25,,\n | 0 | ship Ile_de_Re up 1100 110 25 0
+name,way,length,width,arrival\nalva,up,110,5,11,4,17:25\n | 1 | | line 2 has 7 cells, and the first line 5; a comma in a cell wants quotes
+name,way,length,width,arrival,handling\nalva,up,110,11,17:25,5.5\n | 1 | | line 2: the handling must be a whole number up to 1000000, and not "5.5"
+name,way,length,width,arrival,class\nalva,up,110,11,17:25,ADN\n | 1 | | line 2: the class must be a whole number up to 9, and not "ADN"
+name,way,length,width,arrival\ralva,up,110,11,17:25\r | 1 | | its lines end in carriage returns alone
+ROWS
+echo name,way,length,width,arrival >"$room/ships.csv"
+printf 'name,way,length,width,arrival\nalva,up,110,11,0\n' >"$room/alva.csv"
+wrong_call() {
+  out=$(cd "$room" && awk $1 -f "$top/examples/$2" "$3" 2>err)
+  status=$? err=$(<"$room/err")
+  check "$2 $3 $1" gives "$4" "${6-}" "$5"
+}
+rows wrong_call <<'ROWS'
+-v lock=evening.lock -v begin=1700 | lock_of_csv.awk | ships.csv | 1 | begin must be a time of day such as 17:00, and not "1700"
+-v lock=nolock | lock_of_csv.awk | alva.csv | 1 | the lock's file nolock can't be read
+| csv_of_report.awk | evening.plan | 1 | csv_of_report: this is no whole report | lockage,chamber
+| csv_of_report.awk | cut.report | 1 | this is no whole report: it has no line end | lockage,chamber
+| plan_of_dossier.awk | evening.lock | 1 | plan_of_dossier: no plan stands in it
+| plan_of_dossier.awk | cut.dossier | 1 | its plan is damaged or cut off | berth
+| plan_of_dossier.awk | evening.dossier | 0 | | lockage main up 0
+| plan_of_report.awk | evening.lock | 1 | plan_of_report: this is no report: it has no lockage
+| plan_of_report.awk | evening.plan | 1 | line 3 is no line of a report; perhaps this is a plan text already
 ROWS
 { echo name,way,length,width,arrival; printf 's%s,up,50,6,0\n' {1..25}; } >"$room/ships.csv"
 awk -v lock="$room/evening.lock" -f "$top/examples/lock_of_csv.awk" "$room/ships.csv" >"$room/ships.lock"
