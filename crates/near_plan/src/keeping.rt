@@ -92,6 +92,7 @@ fn keep_line<F: Fitting>(
 
 /// The groups of loose lines, each ship in the first of its groups, and without those that don't fit
 /// together.
+#[inline(never)]
 pub(crate) fn kept<F: Fitting>(
     instance: &Instance,
     lines: &LooseLines,

@@ -18,6 +18,7 @@ use std::alloc::Global;
 const MOST_ROUNDS: u32 = 3;
 
 // Puts all ships in that the draft lacks, in arrival order; whether all could be put.
+#[inline(never)]
 fn complete<F: Fitting>(
     instance: &Instance,
     draft: &mut Draft,
@@ -68,6 +69,7 @@ fn better_for<F: Fitting>(
 }
 
 // Takes each ship out and puts it in again, where that gains; whether one gained.
+#[inline(never)]
 fn better<F: Fitting>(
     instance: &Instance,
     draft: &mut Draft,

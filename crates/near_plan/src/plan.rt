@@ -64,6 +64,7 @@ fn cheaper(instance: &Instance, plan: Plan, below: u64) -> Option<Plan>
 }
 
 /// The plan of a draft at the earliest, if it is legal and costs less than so many minutes.
+#[inline(never)]
 pub(crate) fn plan_of<F: Fitting>(
     instance: &Instance,
     draft: &Draft,
