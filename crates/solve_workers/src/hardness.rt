@@ -220,6 +220,7 @@ fn begun<R: Threads + Wait + Sync, G: Gate + Sync>(
 }
 
 // Shows of the slots that are left what the root reaches by its prices, where it was priced.
+#[inline(never)]
 #[tactic(auto, using(crate::proofs::ShowingLemmas::shown_none))]
 fn show_root(driver: &Driver<'_>, book: &mut Book, case: &Case)
     requires { book.old.case ≡ case.now }
