@@ -22,6 +22,7 @@ pub(crate) struct Standing {
 
 impl Draft {
     /// Lines without groups.
+    #[inline(never)]
     pub(crate) fn new(instance: &Instance) -> Draft
         ensures { IsDraft instance.now result }
     {
@@ -42,6 +43,7 @@ impl Draft {
 
     /// Puts a line in the place of that of a chamber, which is given back. None, and nothing changed, where
     /// it has a group of no ship, or of one that the instance lacks.
+    #[inline(never)]
     pub(crate) fn set_line(&mut self, instance: &Instance, chamber: u8, line: Line) -> Option<Line>
         requires chamber_in { chamber < length instance.now.chambers }
         requires draft { IsDraft instance.now self.old }
@@ -67,6 +69,7 @@ impl Draft {
 
     /// Takes a ship out of where it stands; the line as it was is given back. None, and nothing changed,
     /// where the line has a ship that the instance lacks.
+    #[inline(never)]
     pub(crate) fn take_out(&mut self, instance: &Instance, ship: u8, at: Standing) -> Option<Line>
         requires chamber_in { at.chamber < length instance.now.chambers }
         requires draft { IsDraft instance.now self.old }

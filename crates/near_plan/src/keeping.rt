@@ -90,28 +90,25 @@ fn keep_line<F: Fitting>(
     Ok(())
 }
 
-/// The groups of loose lines, each ship in the first of its groups, and without those that don't fit
-/// together.
-pub(crate) fn kept<F: Fitting>(
+/// Puts the groups of loose lines into the draft, each ship in the first of its groups, and without those
+/// that don't fit together.
+#[inline(never)]
+pub(crate) fn keep_lines<F: Fitting>(
     instance: &Instance,
+    draft: &mut Draft,
     lines: &LooseLines,
     fitting: &mut F,
-) -> Result<Draft, NoMemory>
+) -> Result<(), NoMemory>
+    requires draft { IsDraft instance.now draft.old }
     requires same { F.instance fitting.old ≡ instance.now }
-    ensures draft { IfOk result (IsDraft instance.now) }
+    ensures draft { IsDraft instance.now draft.new }
     ensures same { F.instance fitting.new ≡ instance.now }
 {
-    let mut draft = Draft::new(instance);
     for (chamber, line) in lines.lines.as_slice().iter().enumerate() {
         if chamber < instance.chambers.as_slice().len() {
-            keep_line(
-                instance,
-                &mut draft,
-                chamber as u8,
-                line.groups.as_slice(),
-                fitting,
-            )?;
+            let groups = line.groups.as_slice();
+            keep_line(instance, draft, chamber as u8, groups, fitting)?;
         }
     }
-    Ok(draft)
+    Ok(())
 }

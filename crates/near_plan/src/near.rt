@@ -5,7 +5,7 @@ ghost use Rattle.near_plan.specs.Rows.{IsDraft};
 
 use crate::draft::Draft;
 use crate::fitting::Fitting;
-use crate::keeping::kept;
+use crate::keeping::keep_lines;
 use crate::plan::plan_of;
 use crate::putting::{Trial, put};
 use lock_model::{Instance, Plan};
@@ -18,6 +18,7 @@ use std::alloc::Global;
 const MOST_ROUNDS: u32 = 3;
 
 // Puts all ships in that the draft lacks, in arrival order; whether all could be put.
+#[inline(never)]
 fn complete<F: Fitting>(
     instance: &Instance,
     draft: &mut Draft,
@@ -68,6 +69,7 @@ fn better_for<F: Fitting>(
 }
 
 // Takes each ship out and puts it in again, where that gains; whether one gained.
+#[inline(never)]
 fn better<F: Fitting>(
     instance: &Instance,
     draft: &mut Draft,
@@ -86,21 +88,22 @@ fn better<F: Fitting>(
     Ok(gained)
 }
 
-/// A legal plan near loose lines that costs less than so many minutes, if one is found. Its only refusal
-/// is want of memory.
+/// A legal plan near loose lines that costs less than so many minutes, if one is found, in a box. Its only
+/// refusal is want of memory.
 pub fn near_plan<F: Fitting>(
     alloc: Global,
     instance: &Instance,
     lines: &LooseLines,
     below: u64,
     fitting: &mut F,
-) -> Result<Option<Plan>, NoMemory>
+) -> Result<Option<Box<Plan>>, NoMemory>
     requires same { F.instance fitting.old ≡ instance.now }
     ensures same { F.instance fitting.new ≡ instance.now }
-    ensures legal { IfOk result (λ found. IfSome found (IsLegal instance.now)) }
-    ensures cheaper { IfOk result (λ found. IfSome found (λ plan. cost_of instance.now plan < below)) }
+    ensures legal { IfOk result (λ found. IfSome found (λ plan. IsLegal instance.now plan.value)) }
+    ensures cheaper { IfOk result (λ found. IfSome found (λ plan. cost_of instance.now plan.value < below)) }
 {
-    let mut draft = kept(instance, lines, fitting)?;
+    let mut draft = Draft::new(instance);
+    keep_lines(instance, &mut draft, lines, fitting)?;
     let mut trials = Vec::new(alloc);
     if !complete(instance, &mut draft, &mut trials, fitting)? {
         return Ok(None);
@@ -113,5 +116,5 @@ pub fn near_plan<F: Fitting>(
     if draft.flow() >= below {
         return Ok(None);
     }
-    plan_of(instance, &draft, below, fitting)
+    plan_of(alloc, instance, &draft, below, fitting)
 }

@@ -9,6 +9,7 @@ use chamber_times::{cost, earliest};
 use lock_model::{Group, Instance, Lockage, Lockages, Plan, SHIPS};
 use mooring_rules::judge_plan;
 use no_memory::NoMemory;
+use std::alloc::Global;
 
 // Appends the lockages of a line at the earliest; false where a group has no spots.
 fn add_line<F: Fitting>(
@@ -53,27 +54,37 @@ fn costs_less(instance: &Instance, plan: &Plan, below: u64) -> bool
 }
 
 // The plan, if it is legal and costs less than so many minutes.
-fn cheaper(instance: &Instance, plan: Plan, below: u64) -> Option<Plan>
-    ensures legal { IfSome result (IsLegal instance.now) }
-    ensures cheaper { IfSome result (λ plan. cost_of instance.now plan < below) }
+fn cheaper(
+    alloc: Global,
+    instance: &Instance,
+    plan: Plan,
+    below: u64,
+) -> Result<Option<Box<Plan>>, NoMemory>
+    ensures legal { IfOk result (λ found. IfSome found (λ plan. IsLegal instance.now plan.value)) }
+    ensures cheaper { IfOk result (λ found. IfSome found (λ plan. cost_of instance.now plan.value < below)) }
 {
     if judge_plan(instance, &plan).is_some() || !costs_less(instance, &plan, below) {
-        return None;
+        return Ok(None);
     }
-    Some(plan)
+    match Box::new(alloc, plan) {
+        Ok(plan) => Ok(Some(plan)),
+        Err(_) => Err(NoMemory),
+    }
 }
 
 /// The plan of a draft at the earliest, if it is legal and costs less than so many minutes.
+#[inline(never)]
 pub(crate) fn plan_of<F: Fitting>(
+    alloc: Global,
     instance: &Instance,
     draft: &Draft,
     below: u64,
     fitting: &mut F,
-) -> Result<Option<Plan>, NoMemory>
+) -> Result<Option<Box<Plan>>, NoMemory>
     requires same { F.instance fitting.old ≡ instance.now }
     ensures same { F.instance fitting.new ≡ instance.now }
-    ensures legal { IfOk result (λ found. IfSome found (IsLegal instance.now)) }
-    ensures cheaper { IfOk result (λ found. IfSome found (λ plan. cost_of instance.now plan < below)) }
+    ensures legal { IfOk result (λ found. IfSome found (λ plan. IsLegal instance.now plan.value)) }
+    ensures cheaper { IfOk result (λ found. IfSome found (λ plan. cost_of instance.now plan.value < below)) }
 {
     let mut lockages = Lockages::new();
     for chamber in 0..instance.chambers.as_slice().len() as u8 {
@@ -82,5 +93,5 @@ pub(crate) fn plan_of<F: Fitting>(
             return Ok(None);
         }
     }
-    Ok(cheaper(instance, Plan { lockages }, below))
+    cheaper(alloc, instance, Plan { lockages }, below)
 }

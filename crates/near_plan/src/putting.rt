@@ -46,6 +46,7 @@ fn try_place(
 }
 
 // Tries all places of a chamber's line, but those behind one where the ship comes too late.
+#[inline(never)]
 fn try_line(
     instance: &Instance,
     draft: &Draft,

@@ -120,6 +120,26 @@ impl Ascent {
         }
     }
 
+    /// Begins anew with these prices, as `new` does, in the same place.
+    pub fn restart(&mut self, start: &Prices, pace: Pace)
+        ensures tried { self.new.tried ≡ start.now }
+        ensures best { self.new.best ≡ start.now }
+        ensures pace { self.new.pace ≡ pace }
+    {
+        self.tried = start.copy();
+        self.best = start.copy();
+        self.best_sum = i64::MIN;
+        self.exact = exact_of(start);
+        self.direction = [0; SHIPS];
+        self.triples = RaisedTriples::of(start);
+        self.recent.clear();
+        self.stride = WHOLE_STRIDE;
+        self.idle = 0;
+        self.mark = i64::MIN;
+        self.walked = pace.span;
+        self.pace = pace;
+    }
+
     /// The prices that are to be tried next.
     pub fn tried(&self) -> &Prices
         ensures { result.now ≡ self.now.tried }

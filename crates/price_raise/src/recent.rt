@@ -38,6 +38,12 @@ impl Recent {
         }
     }
 
+    /// Forgets all groups.
+    pub(crate) fn clear(&mut self) {
+        self.seen.clear();
+        self.rounds = 0;
+    }
+
     // Lets what was seen fade.
     fn fade(&mut self) {
         let mut seen = ArrayVec::new();

@@ -49,6 +49,7 @@ fn number_in_book<D: Desk>(
 
 // Closes the held slot by prices, where its node reaches the best cost by them and by the book's first
 // cuts; whether it was closed.
+#[inline(never)]
 fn close_by<D: Desk>(
     desk: &D,
     hand: &mut D::Hand,

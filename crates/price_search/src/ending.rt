@@ -93,6 +93,7 @@ fn next<D: Desk>(
 
 /// Ends an ascent at the held node. The root is swept, or another ascent begins there. A node that is split
 /// leaves its prices to the nodes below it.
+#[inline(never)]
 pub(crate) fn end_ascent<D: Desk>(
     desk: &D,
     hand: &mut D::Hand,

@@ -9,7 +9,7 @@ use lock_model::Plan;
 #[derive(Drop)]
 pub struct Found {
     pub cuts: Vec<Cut>,
-    pub plan: Option<Plan>,
+    pub plan: Option<Box<Plan>>,
 }
 
 impl Found {
@@ -41,14 +41,14 @@ fn give_some<D: Desk>(
     desk: &D,
     hand: &mut D::Hand,
     held: &InHand<'_>,
-    plan: Option<Plan>,
+    plan: Option<Box<Plan>>,
 ) -> Result<(), D::Stop>
     requires serves { D.serves desk.now hand.old }
     ensures serves { D.serves desk.now hand.new }
     ensures holds { Stays (D.holds desk.now held.now) hand.old hand.new }
 {
     match plan {
-        Some(plan) => desk.give(hand, held, plan),
+        Some(plan) => desk.give(hand, held, Box::into_inner(plan)),
         None => Ok(()),
     }
 }

@@ -134,13 +134,19 @@ fn copy_cuts(alloc: Global, cuts: &[ChamberCut]) -> Result<Vec<ChamberCut>, NoMe
     Ok(copies)
 }
 
+// An ascent that begins with these prices. It takes some 30 KB, so it lies apart from who hands it on.
+#[inline(never)]
+fn ascent_of(alloc: Global, prices: &Prices, pace: Pace) -> Result<Box<Ascent>, NoMemory> {
+    Box::new(alloc, Ascent::new(prices.copy(), pace)).map_err(|_| NoMemory)
+}
+
 /// The prices of the nodes on the way from the root to the one in hand, those that are raised at the
 /// node in hand, how soon the first node is left, the first cuts of the book, how many further ascents at
 /// the root, rounds and labels of sweeps may be made still, and least lines that are kept from call to call.
 #[derive(Drop)]
 pub struct Pricing {
     pub(crate) path: Vec<Offer>,
-    pub(crate) ascent: Ascent,
+    pub(crate) ascent: Box<Ascent>,
     pub(crate) first: FirstNode,
     pub(crate) ascents: u32,
     pub(crate) left: u32,
@@ -161,7 +167,7 @@ impl Pricing {
         labels: u64,
     ) -> Result<Pricing, NoMemory> {
         let mut path = Vec::new(alloc);
-        let ascent = Ascent::new(prices.copy(), first.pace());
+        let ascent = ascent_of(alloc, &prices, first.pace())?;
         append(&mut path, Offer::new(prices))?;
         Ok(Pricing {
             path,
@@ -196,7 +202,7 @@ impl Pricing {
             PACE
         };
         if let [.., last] = self.path.as_slice() {
-            self.ascent = Ascent::new(last.prices.copy(), pace);
+            self.ascent.restart(&last.prices, pace);
         }
     }
 
@@ -273,7 +279,7 @@ impl Pricing {
         append(&mut path, self.offer())?;
         Ok(Pricing {
             path,
-            ascent: Ascent::new(self.ascent.best().copy(), PACE),
+            ascent: ascent_of(alloc, self.ascent.best(), PACE)?,
             first: self.first,
             ascents: 0,
             left: MOST_ROUNDS,

@@ -98,6 +98,7 @@ fn close_parked(book: &mut Book)
 }
 
 /// Drives the search of a book to its end, as `drive` does, with what a driver has.
+#[inline(never)]
 #[tactic(auto, using(crate::proofs::TidyLemmas::tidied_ends, crate::proofs::DrivenLemmas::driven_then, crate::proofs::DrivenLemmas::driven_cost))]
 pub(crate) fn finish(driver: &mut Driver<'_>, book: &mut Book) -> Result<(), NoMemory>
     requires free { HoldsNothing book.old }

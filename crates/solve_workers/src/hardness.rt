@@ -131,11 +131,15 @@ fn most_labels(case: &Case) -> u64 {
     (case.nodes as u64).saturating_mul(a_node).min(MOST_LABELS)
 }
 
-// Prices to begin with: what each ship costs in the best plan.
-fn first_pricing(alloc: Global, book: &Book, first: FirstNode) -> Option<Pricing> {
+// Begins with prices: what each ship costs in the best plan; without them where memory is wanting. What
+// prices are kept in is large, so it is put where it stays.
+#[inline(never)]
+fn begin_pricing(driver: &mut Driver<'_>, book: &Book, first: FirstNode)
+    ensures search { driver.new.search ≡ driver.old.search }
+{
     let case = book.case();
     let prices = first_prices(&case.instance, book.best());
-    Pricing::new(alloc, prices, first, most_labels(case)).ok()
+    driver.pricing = Pricing::new(driver.alloc, prices, first, most_labels(case)).ok();
 }
 
 // The board of what was found at the root, if anything was and there is memory for it.
@@ -181,7 +185,7 @@ fn priced<R: Threads + Wait + Sync, G: Gate + Sync>(
     ensures search { driver.new.search ≡ driver.old.search }
 {
     let first = first_node(lent.case, lent.workers);
-    driver.pricing = first_pricing(lent.alloc, &*book, first);
+    begin_pricing(driver, &*book, first);
     let is_done = drive_some(driver, &mut *book, 1)?;
     driver.keep_root();
     if is_done || lent.workers == 1 {
@@ -189,7 +193,7 @@ fn priced<R: Threads + Wait + Sync, G: Gate + Sync>(
     }
     let pricing = mem::replace(&mut driver.pricing, None);
     let book = priced_by_all(lent, book, pricing, cost)?;
-    driver.pricing = first_pricing(lent.alloc, &*book, first);
+    begin_pricing(driver, &*book, first);
     Ok(book)
 }
 
@@ -216,6 +220,7 @@ fn begun<R: Threads + Wait + Sync, G: Gate + Sync>(
 }
 
 // Shows of the slots that are left what the root reaches by its prices, where it was priced.
+#[inline(never)]
 #[tactic(auto, using(crate::proofs::ShowingLemmas::shown_none))]
 fn show_root(driver: &Driver<'_>, book: &mut Book, case: &Case)
     requires { book.old.case ≡ case.now }

@@ -19,6 +19,7 @@ use node_work::{Fate, closed_early, inner_fate, whole_fate};
 use price_search::InHand;
 
 // Works on the held node, which holds all ships.
+#[inline(never)]
 fn work_whole(driver: &mut Driver<'_>, book: &mut Book, id: u32) -> Result<(), NoMemory>
     requires holds { HoldsSlot book.old id }
     requires own { IsOwnSearch book.old driver.old.search }
@@ -71,6 +72,7 @@ fn split_unless_priced(driver: &mut Driver<'_>, book: &mut Book, id: u32) -> Res
 
 // What becomes of the held node, which lacks ships, by the probe of the next one. The node is looked
 // at in the book.
+#[inline(never)]
 fn fate_of(
     driver: &mut Driver<'_>,
     book: &Book,

@@ -1,6 +1,6 @@
 use Rattle.std.proofs.Common.{◌≡◌}
 use Rattle.near_plan.specs.Rows.{IsDraft}
-use Rattle.near_plan.proofs.keeping.kept.Given as goal
+use Rattle.near_plan.proofs.keeping.keep_lines.Given as goal
 
 abbrev pub invariant-loop-chamber : goal.invariant-loop-chamber
 invariant-loop-chamber g l = record {
