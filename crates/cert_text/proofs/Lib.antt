@@ -6,6 +6,7 @@ pub mod CutLemmas
 pub mod SpotLemmas
 pub mod PlanLemmas
 pub mod TripleLemmas
+pub mod ValueLemmas
 pub mod PriceLemmas
 pub mod TreeLemmas
 pub mod MarkLemmas

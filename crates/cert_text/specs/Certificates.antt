@@ -31,10 +31,6 @@ end_members version prices tree =
 abbrev pub claim_members : ℕ → List CertCut → List (List ℕ × Data) → List (List ℕ × Data)
 claim_members cost cuts more = (codes "cost", cost_data cost) ∷ (codes "cuts", cuts_data cuts) ∷ more
 
--- the keys of the versions without prices
-abbrev pub plain_members : ℕ → List CertCut → Plan → Data → List (List ℕ × Data)
-plain_members cost cuts plan tree = claim_members cost cuts ((codes "plan", plan_data plan) ∷ (codes "tree", tree) ∷ [])
-
 -- the object of a version with these parts
 abbrev pub parts_data : Version → ℕ → List CertCut → Plan → List PriceList → Data → Data
 parts_data version cost cuts plan prices tree =

@@ -51,6 +51,18 @@ refutation_in (suc (suc (suc (suc (suc (suc zero)))))) rest = do
   Some (refutation.Berths marks)
 refutation_in _ rest = None
 
+-- the refutation by a tree of this kind
+abbrev pub tree_refutation : ℕ → List ℕ → Option Refutation
+tree_refutation (suc (suc (suc zero))) marks = Some (refutation.Cases marks)
+tree_refutation (suc (suc (suc (suc zero)))) marks = Some (refutation.Spots marks)
+tree_refutation (suc (suc (suc (suc (suc (suc zero)))))) marks = Some (refutation.Berths marks)
+tree_refutation _ marks = None
+
+abbrev pub tree_refutation_in : ℕ → Items → Option Refutation
+tree_refutation_in kind rest = do
+  marks ← all_in word_in rest
+  tree_refutation kind marks
+
 -- a list of numbers, the first of which tells the kind of refutation
 abbrev pub why_items : Items → Option Refutation
 why_items no_items = None

@@ -167,9 +167,10 @@ pub fn certificate_in(
     ensures read { IfOk result (λ c. certificate_in form instance.now.ships version (view value.now) ≡ Ok c) }
     ensures shape { IfErr result (IsFault (fault_under Shape (certificate_in form instance.now.ships version (view value.now)))) }
 {
-    let Front { cost, cuts, plan } = front_in(alloc, instance, version, value)?;
+    let front = front_in(alloc, instance, version, value)?;
     let tree = tree_at(alloc, form, numbering_of(instance), version, value)?;
     let prices = prices_at(alloc, instance.most_lockages(), version, value)?;
+    let Front { cost, cuts, plan } = front;
     Ok(Certificate {
         cost,
         cuts,

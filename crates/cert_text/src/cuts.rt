@@ -8,13 +8,14 @@ ghost use Rattle.cert_text.specs.Cuts.{cut_data, cuts_data, cut_in, cuts_in, why
 ghost use Rattle.cert_text.specs.declared.bad.BadDossier.TheVariants.{Shape};
 
 use crate::bad::{BadDossier, DossierError};
-use crate::ships::{put_ships, ships_at};
-use crate::value::{chamber_at, has_members, put_byte};
+use crate::group::put_group;
+use crate::ships::ships_at;
+use crate::value::{chamber_at, has_members};
 use crate::why::{put_why, why_in};
 use certificate_parts::{CertCut, CertCuts};
 use no_memory::NoMemory;
 use refute_rules::Refutation;
-use serde_json::{Map, Value};
+use serde_json::Value;
 use std::alloc::{AllocError, Global};
 
 /// A cut as a value.
@@ -24,11 +25,7 @@ fn put_cut(alloc: Global, cut: &CertCut) -> Result<Value, AllocError>
     ensures value { IfOk result (λ v. view v ≡ cut_data cut.now) }
     ensures reads_back { IfOk result (λ _. cut_in (cut_data cut.now) ≡ Some cut.now) }
 {
-    let mut map = Map::new(alloc);
-    let chamber = put_byte(cut.chamber);
-    serde_json::put(&mut map, alloc, "chamber", chamber)?;
-    let ships = put_ships(alloc, &cut.ships)?;
-    serde_json::put(&mut map, alloc, "ships", ships)?;
+    let mut map = put_group(alloc, cut.chamber, &cut.ships)?;
     let why = put_why(alloc, &cut.refutation)?;
     serde_json::put(&mut map, alloc, "why", why)?;
     Ok(Value::Object(map))

@@ -18,6 +18,7 @@ mod bad;
 mod certificate;
 mod cost;
 mod cuts;
+mod group;
 mod heading;
 mod marks;
 mod parts;

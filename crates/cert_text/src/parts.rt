@@ -4,10 +4,10 @@ ghost use Rattle.certificate_rules.specs.WellFormed.{IsFormedCut, IsFormedLockag
 ghost use Rattle.serde_json.specs.View.{view, members_view};
 ghost use Rattle.cert_text.specs.Fields.{members};
 ghost use Rattle.cert_text.specs.Cuts.{cuts_data, cuts_in};
-ghost use Rattle.cert_text.specs.Plans.{IsPlanBack};
+ghost use Rattle.cert_text.specs.Plans.{plan_data, IsPlanBack};
 ghost use Rattle.cert_text.specs.Prices.{AreListsBack};
 ghost use Rattle.cert_text.specs.Versions.{has_prices};
-ghost use Rattle.cert_text.specs.Certificates.{claim_members, plain_members, parts_data};
+ghost use Rattle.cert_text.specs.Certificates.{claim_members, parts_data};
 
 use crate::cost::put_cost;
 use crate::cuts::put_cuts;
@@ -46,19 +46,19 @@ fn put_claims(alloc: Global, parts: &Parts) -> Result<Map<String, Value>, NoMemo
     Ok(map)
 }
 
-/// The members that each certificate has, by their keys.
+/// The cost, the cuts and the plan, by their keys.
 #[tactic(auto, unfolding(serde_json::proofs::OnLiterals::serde_json_on_literals))]
-fn put_members(alloc: Global, parts: &Parts, tree: Value) -> Result<Map<String, Value>, NoMemory>
+fn put_members(alloc: Global, parts: &Parts) -> Result<Map<String, Value>, NoMemory>
     requires cuts { All IsFormedCut parts.now.cuts.now }
     requires lockages { All IsFormedLockage parts.now.plan.now.lockages }
-    ensures members { IfOk result (λ map. members_view map.entries ≡ members (plain_members parts.now.cost parts.now.cuts.now parts.now.plan.now (view tree))) }
+    ensures members { IfOk result (λ map. members_view map.entries
+        ≡ members (claim_members parts.now.cost parts.now.cuts.now ((codes "plan", plan_data parts.now.plan.now) ∷ []))) }
     ensures cuts_back { IfOk result (λ _. cuts_in (cuts_data parts.now.cuts.now) ≡ Some parts.now.cuts.now) }
     ensures plan_back { IfOk result (λ _. IsPlanBack parts.now.plan.now) }
 {
     let mut map = put_claims(alloc, parts)?;
     let plan = put_plan(alloc, parts.plan)?;
     serde_json::put(&mut map, alloc, "plan", plan)?;
-    serde_json::put(&mut map, alloc, "tree", tree)?;
     Ok(map)
 }
 
@@ -77,7 +77,8 @@ pub fn put_parts(
     ensures plan_back { IfOk result (λ _. IsPlanBack parts.now.plan.now) }
     ensures prices_back { IfOk result (λ _. has_prices version ≡ true → AreListsBack parts.now.prices.now) }
 {
-    let mut map = put_members(alloc, parts, tree)?;
+    let mut map = put_members(alloc, parts)?;
+    serde_json::put(&mut map, alloc, "tree", tree)?;
     if has_prices(version) {
         let prices = put_prices(alloc, parts.prices)?;
         serde_json::put(&mut map, alloc, "prices", prices)?;

@@ -1,19 +1,19 @@
 //! Plans as JSON values.
-ghost use Rattle.std.specs.Prelude.{◌≡◌, ◌≤◌, [], ◌∷◌, All, length, IfOk, IfErr, Some, None, map, codes};
+ghost use Rattle.std.specs.Prelude.{◌≡◌, ◌≤◌, All, length, IfOk, IfErr, Some, None, map, codes};
 ghost use Rattle.certificate_rules.specs.WellFormed.{IsFormedLockage};
-ghost use Rattle.serde_json.specs.View.{view, items_of, items_view, members_view};
-ghost use Rattle.cert_text.specs.Fields.{number_data, numbers_data, members, byte_in, word_in, all_in, value_at};
-ghost use Rattle.cert_text.specs.Ships.{ships_in};
-ghost use Rattle.cert_text.specs.Plans.{way_number, way_of, way_in, spots_in, group_members, lockage_data, plan_data, lockage_in, plan_items, plan_in, IsPlanBack};
+ghost use Rattle.serde_json.specs.View.{view, items_of, items_view};
+ghost use Rattle.cert_text.specs.Fields.{word_in, all_in, value_at};
+ghost use Rattle.cert_text.specs.Plans.{way_number, way_of, way_in, spots_in, lockage_data, plan_data, lockage_in, plan_items, plan_in, IsPlanBack};
 ghost use Rattle.cert_text.specs.declared.bad.BadDossier.TheVariants.{Shape};
 
 use crate::bad::BadDossier;
-use crate::ships::{put_ships, ships_at};
+use crate::group::put_group;
+use crate::ships::ships_at;
 use crate::spots::{put_spots, spots_in};
 use crate::value::{chamber_at, has_members, put_byte, put_word, word_in};
 use lock_model::{Lockage, Lockages, MOST, Plan, SHIPS, Spots, Way};
 use no_memory::NoMemory;
-use serde_json::{Map, Value};
+use serde_json::Value;
 use std::alloc::{AllocError, Global};
 
 /// The number of a way.
@@ -27,22 +27,6 @@ fn way_number(way: Way) -> u8
     }
 }
 
-/// The chamber and the ships of a lockage, by their keys.
-#[tactic(auto, unfolding(serde_json::proofs::OnLiterals::serde_json_on_literals))]
-fn put_group(alloc: Global, lockage: &Lockage) -> Result<Map<String, Value>, AllocError>
-    requires { IsFormedLockage lockage.now }
-    ensures members { IfOk result (λ map. members_view map.entries ≡ members (group_members lockage.now [])) }
-    ensures chamber_back { IfOk result (λ _. byte_in (number_data lockage.now.chamber) ≡ Some lockage.now.chamber) }
-    ensures ships_back { IfOk result (λ _. ships_in (numbers_data lockage.now.ships) ≡ Some lockage.now.ships) }
-{
-    let mut map = Map::new(alloc);
-    let chamber = put_byte(lockage.chamber);
-    serde_json::put(&mut map, alloc, "chamber", chamber)?;
-    let ships = put_ships(alloc, &lockage.ships)?;
-    serde_json::put(&mut map, alloc, "ships", ships)?;
-    Ok(map)
-}
-
 /// A lockage as a value.
 #[tactic(auto, unfolding(serde_json::proofs::OnLiterals::serde_json_on_literals))]
 fn put_lockage(alloc: Global, lockage: &Lockage) -> Result<Value, AllocError>
@@ -50,7 +34,7 @@ fn put_lockage(alloc: Global, lockage: &Lockage) -> Result<Value, AllocError>
     ensures value { IfOk result (λ v. view v ≡ lockage_data lockage.now) }
     ensures reads_back { IfOk result (λ _. lockage_in (lockage_data lockage.now) ≡ Some lockage.now) }
 {
-    let mut map = put_group(alloc, lockage)?;
+    let mut map = put_group(alloc, lockage.chamber, &lockage.ships)?;
     let spots = put_spots(alloc, &lockage.spots)?;
     serde_json::put(&mut map, alloc, "spots", spots)?;
     let start = put_word(lockage.start);
@@ -90,23 +74,29 @@ fn spots_at(value: &Value, count: usize) -> Option<Spots>
     requires { count ≤ MOST }
     ensures { result ≡ value_at (codes "spots") (spots_in count) (view value.now) }
 {
-    spots_in(value.get("spots")?, count)
+    match value.get("spots") {
+        Some(spots) => spots_in(spots, count),
+        None => None,
+    }
 }
 
 /// The minute at the key `start`.
 fn start_at(value: &Value) -> Option<u32>
     ensures { result ≡ value_at (codes "start") word_in (view value.now) }
 {
-    word_in(value.get("start")?)
+    match value.get("start") {
+        Some(start) => word_in(start),
+        None => None,
+    }
 }
 
 /// The way that a value writes.
 fn way_in(value: &Value) -> Option<Way>
     ensures { result ≡ way_in (view value.now) }
 {
-    match value.as_u64()? {
-        0 => Some(Way::Up),
-        1 => Some(Way::Down),
+    match value.as_u64() {
+        Some(0) => Some(Way::Up),
+        Some(1) => Some(Way::Down),
         _ => None,
     }
 }
@@ -115,7 +105,10 @@ fn way_in(value: &Value) -> Option<Way>
 fn way_at(value: &Value) -> Option<Way>
     ensures { result ≡ value_at (codes "way") way_in (view value.now) }
 {
-    way_in(value.get("way")?)
+    match value.get("way") {
+        Some(way) => way_in(way),
+        None => None,
+    }
 }
 
 /// The lockage that a value writes.
@@ -169,7 +162,10 @@ fn plan_in(most: usize, value: &Value) -> Option<Plan>
     requires { most ≤ SHIPS }
     ensures { result ≡ plan_in most (view value.now) }
 {
-    plan_items(most, value.as_array()?.as_slice())
+    match value.as_array() {
+        Some(list) => plan_items(most, list.as_slice()),
+        None => None,
+    }
 }
 
 /// The plan of up to `most` lockages that a value lists, each lockage with its chamber, its ships, as

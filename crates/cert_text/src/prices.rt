@@ -114,7 +114,10 @@ fn ship_prices_in(most: usize, value: &Value) -> Option<Prices>
     requires { most ≤ SHIPS }
     ensures { result ≡ ship_prices_in most (view value.now) }
 {
-    items_prices(most, value.as_array()?.as_slice())
+    match value.as_array() {
+        Some(list) => items_prices(most, list.as_slice()),
+        None => None,
+    }
 }
 
 /// The prices of ships at the key `ships`.
@@ -122,7 +125,10 @@ fn ship_prices_at(most: usize, value: &Value) -> Option<Prices>
     requires { most ≤ SHIPS }
     ensures { result ≡ value_at (codes "ships") (ship_prices_in most) (view value.now) }
 {
-    ship_prices_in(most, value.get("ships")?)
+    match value.get("ships") {
+        Some(ships) => ship_prices_in(most, ships),
+        None => None,
+    }
 }
 
 /// The prices of ships and of triples at their keys.
@@ -146,6 +152,22 @@ fn prices_in(most: usize, version: Version, value: &Value) -> Option<Prices>
     }
 }
 
+/// The prices that a value writes, to be kept.
+fn kept_in(
+    alloc: Global,
+    most: usize,
+    version: Version,
+    value: &Value,
+) -> Result<Option<KeptPrices>, NoMemory>
+    requires { most ≤ SHIPS }
+    ensures { IfOk result (λ o. o ≡ prices_in most version (view value.now)) }
+{
+    match prices_in(most, version, value) {
+        Some(prices) => Ok(Some(KeptPrices::of(alloc, &prices)?)),
+        None => Ok(None),
+    }
+}
+
 /// The lists of prices that values write.
 fn all_in(
     alloc: Global,
@@ -158,8 +180,8 @@ fn all_in(
 {
     let mut found = PriceLists::new(alloc);
     for value in list {
-        match prices_in(most, version, value) {
-            Some(prices) => found.push(KeptPrices::of(alloc, &prices)?)?,
+        match kept_in(alloc, most, version, value)? {
+            Some(prices) => found.push(prices)?,
             None => return Ok(None),
         }
     }

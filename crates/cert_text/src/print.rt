@@ -1,6 +1,7 @@
 //! Printing dossiers.
 ghost use Rattle.std.specs.Prelude.{◌≡◌, ◌++◌, ◌≤◌, ◌∷◌, [], Some, false, IfOk, OnOk};
 ghost use Rattle.certificate_rules.specs.WellFormed.{IsWellFormed};
+ghost use Rattle.instance_text.specs.Canonical.{canonical};
 ghost use Rattle.serde_json.specs.Data.{depth};
 ghost use Rattle.serde_json.specs.Read.{max_depth};
 ghost use Rattle.serde_json.specs.View.{view};
@@ -54,6 +55,15 @@ fn json_text(alloc: Global, value: Value) -> Result<Vec<u8>, NoMemory>
     Ok(text)
 }
 
+/// The canonical text of an instance and a heading.
+fn print_head(alloc: Global, instance: &Instance, heading: &[u8]) -> Result<Vec<u8>, NoMemory>
+    ensures { IfOk result (λ text. text.items ≡ canonical instance.now ++ heading.now) }
+{
+    let mut out = print_instance(alloc, instance)?;
+    put(&mut out, heading)?;
+    Ok(out)
+}
+
 /// The canonical text of an instance, a heading, and the line of a JSON value, which is read back as
 /// the same value: it has no floating-point number, and nests no deeper than is read. Its only refusal
 /// is want of memory.
@@ -68,9 +78,8 @@ fn print_framed(
     ensures text { IfOk result (λ text. text.items ≡ framed instance.now heading.now (view value)) }
     ensures reads_back { IfOk result (λ _. json_of (json_line (view value)) ≡ Some (view value)) }
 {
-    let mut out = print_instance(alloc, instance)?;
-    put(&mut out, heading)?;
     let text = json_text(alloc, value)?;
+    let mut out = print_head(alloc, instance, heading)?;
     put_line(&mut out, text.as_slice())?;
     Ok(out)
 }

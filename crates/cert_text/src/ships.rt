@@ -78,12 +78,18 @@ fn read_ships(list: &[Value]) -> Option<Ships>
 pub fn ships_in(value: &Value) -> Option<Ships>
     ensures { result ≡ ships_in (view value.now) }
 {
-    ships_of(value.as_array()?.as_slice())
+    match value.as_array() {
+        Some(list) => ships_of(list.as_slice()),
+        None => None,
+    }
 }
 
 /// The ships at the key `ships`, if they are one to eight and rise.
 pub fn ships_at(value: &Value) -> Option<Ships>
     ensures { result ≡ value_at (codes "ships") ships_in (view value.now) }
 {
-    ships_in(value.get("ships")?)
+    match value.get("ships") {
+        Some(ships) => ships_in(ships),
+        None => None,
+    }
 }

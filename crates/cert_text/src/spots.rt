@@ -36,11 +36,11 @@ fn put_spot(alloc: Global, spot: Spot) -> Result<Value, AllocError>
     ensures value { IfOk result (λ v. view v ≡ spot_data spot) }
     ensures reads_back { IfOk result (λ _. spot_in (spot_data spot) ≡ Some spot) }
 {
-    let mut list = Vec::with_capacity(alloc, 4)?;
-    list.push(put_word(spot.x))?;
-    list.push(put_word(spot.y))?;
-    list.push(put_byte(rank_number(spot.rank)))?;
-    list.push(put_word(moor_number(spot.moor)))?;
+    let x = put_word(spot.x);
+    let y = put_word(spot.y);
+    let rank = put_byte(rank_number(spot.rank));
+    let moor = put_word(moor_number(spot.moor));
+    let list = vec![in alloc; x, y, rank, moor]?;
     Ok(Value::Array(list))
 }
 
@@ -69,9 +69,9 @@ pub fn put_spots(alloc: Global, spots: &Spots) -> Result<Value, AllocError>
 fn rank_in(value: &Value) -> Option<Rank>
     ensures { result ≡ rank_in (view value.now) }
 {
-    match value.as_u64()? {
-        0 => Some(Rank::Left),
-        1 => Some(Rank::Right),
+    match value.as_u64() {
+        Some(0) => Some(Rank::Left),
+        Some(1) => Some(Rank::Right),
         _ => None,
     }
 }
@@ -80,9 +80,9 @@ fn rank_in(value: &Value) -> Option<Rank>
 fn moor_in(value: &Value) -> Option<Moor>
     ensures { result ≡ moor_in (view value.now) }
 {
-    match value.as_u64()? {
-        0 => Some(Moor::Quay),
-        number @ 1..=256 => Some(Moor::Ship((number - 1) as u8)),
+    match value.as_u64() {
+        Some(0) => Some(Moor::Quay),
+        Some(number @ 1..=256) => Some(Moor::Ship((number - 1) as u8)),
         _ => None,
     }
 }
@@ -95,19 +95,20 @@ fn spot_items(list: &[Value]) -> Option<Spot>
     let [x, y, rank, moor] = list else {
         return None;
     };
-    Some(Spot {
-        x: word_in(x)?,
-        y: word_in(y)?,
-        rank: rank_in(rank)?,
-        moor: moor_in(moor)?,
-    })
+    match (word_in(x), word_in(y), rank_in(rank), moor_in(moor)) {
+        (Some(x), Some(y), Some(rank), Some(moor)) => Some(Spot { x, y, rank, moor }),
+        _ => None,
+    }
 }
 
 /// The spot that a value lists.
 fn spot_in(value: &Value) -> Option<Spot>
     ensures { result ≡ spot_in (view value.now) }
 {
-    spot_items(value.as_array()?.as_slice())
+    match value.as_array() {
+        Some(list) => spot_items(list.as_slice()),
+        None => None,
+    }
 }
 
 /// The spots that up to eight values list.
@@ -138,5 +139,8 @@ pub fn spots_in(value: &Value, count: usize) -> Option<Spots>
     requires { count ≤ MOST }
     ensures { result ≡ spots_in count (view value.now) }
 {
-    spots_items(value.as_array()?.as_slice(), count)
+    match value.as_array() {
+        Some(list) => spots_items(list.as_slice(), count),
+        None => None,
+    }
 }

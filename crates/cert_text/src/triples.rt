@@ -16,11 +16,11 @@ fn put_triple(alloc: Global, triple: &Triple) -> Result<Value, AllocError>
     ensures value { IfOk result (λ v. view v ≡ triple_data triple.now) }
     ensures reads_back { IfOk result (λ _. triple_in (triple_data triple.now) ≡ Some triple.now) }
 {
-    let mut list = Vec::with_capacity(alloc, 4)?;
-    list.push(put_byte(triple.first))?;
-    list.push(put_byte(triple.second))?;
-    list.push(put_byte(triple.third))?;
-    list.push(put_word(triple.price))?;
+    let first = put_byte(triple.first);
+    let second = put_byte(triple.second);
+    let third = put_byte(triple.third);
+    let price = put_word(triple.price);
+    let list = vec![in alloc; first, second, third, price]?;
     Ok(Value::Array(list))
 }
 
@@ -53,19 +53,30 @@ fn triple_items(list: &[Value]) -> Option<Triple>
     let [first, second, third, price] = list else {
         return None;
     };
-    Some(Triple {
-        first: byte_in(first)?,
-        second: byte_in(second)?,
-        third: byte_in(third)?,
-        price: word_in(price)?,
-    })
+    match (
+        byte_in(first),
+        byte_in(second),
+        byte_in(third),
+        word_in(price),
+    ) {
+        (Some(first), Some(second), Some(third), Some(price)) => Some(Triple {
+            first,
+            second,
+            third,
+            price,
+        }),
+        _ => None,
+    }
 }
 
 /// The triple that a value lists.
 fn triple_in(value: &Value) -> Option<Triple>
     ensures { result ≡ triple_in (view value.now) }
 {
-    triple_items(value.as_array()?.as_slice())
+    match value.as_array() {
+        Some(list) => triple_items(list.as_slice()),
+        None => None,
+    }
 }
 
 /// The same prices of ships, and the 1 to `TRIPLES` triples that values write, if these are in order.
@@ -98,12 +109,18 @@ fn items_triples(prices: &Prices, list: &[Value]) -> Option<Prices>
 fn triples_in(prices: &Prices, value: &Value) -> Option<Prices>
     ensures { result ≡ triples_in prices.now (view value.now) }
 {
-    items_triples(prices, value.as_array()?.as_slice())
+    match value.as_array() {
+        Some(list) => items_triples(prices, list.as_slice()),
+        None => None,
+    }
 }
 
 /// The same prices of ships, and the triples at the key `triples`, if these are 1 to `TRIPLES` and in order.
 pub fn triples_at(prices: &Prices, value: &Value) -> Option<Prices>
     ensures { result ≡ value_at (codes "triples") (triples_in prices.now) (view value.now) }
 {
-    triples_in(prices, value.get("triples")?)
+    match value.get("triples") {
+        Some(triples) => triples_in(prices, triples),
+        None => None,
+    }
 }

@@ -36,8 +36,10 @@ pub fn push_number(list: &mut Vec<Value>, number: u64) -> Result<(), AllocError>
 pub fn number_below(value: &Value, bound: u64) -> Option<u64>
     ensures { result ≡ number_below bound (view value.now) }
 {
-    let number = value.as_u64()?;
-    if number < bound { Some(number) } else { None }
+    match value.as_u64() {
+        Some(number) if number < bound => Some(number),
+        _ => None,
+    }
 }
 
 /// The u8 that a value writes in digits alone.
@@ -70,5 +72,8 @@ pub fn has_members(value: &Value, count: usize) -> bool
 pub fn chamber_at(value: &Value) -> Option<u8>
     ensures { result ≡ value_at (codes "chamber") byte_in (view value.now) }
 {
-    byte_in(value.get("chamber")?)
+    match value.get("chamber") {
+        Some(chamber) => byte_in(chamber),
+        None => None,
+    }
 }

@@ -5,7 +5,7 @@ ghost use Rattle.certificate_rules.specs.WellFormed.{IsFormedRefutation};
 ghost use Rattle.serde_json.specs.View.{view, items_of, items_view};
 ghost use Rattle.cert_text.specs.Fields.{number_data, numbers_data, word_in, all_in};
 ghost use Rattle.cert_text.specs.Ships.{ships_of};
-ghost use Rattle.cert_text.specs.Cuts.{refutation_in, why_items, why_in};
+ghost use Rattle.cert_text.specs.Cuts.{tree_refutation, tree_refutation_in, refutation_in, why_items, why_in};
 
 use crate::ships::{push_bytes, push_ships, ships_of};
 use crate::value::{byte_in, word_in};
@@ -141,6 +141,32 @@ fn column_in(list: &[Value]) -> Option<Refutation>
     Some(Refutation::Quick(Quick::Column(ships)))
 }
 
+/// The refutation by a tree of this kind.
+fn tree_refutation(kind: u64, marks: Marks) -> Option<Refutation>
+    ensures { result ≡ tree_refutation kind marks }
+{
+    match kind {
+        3 => Some(Refutation::Cases(marks)),
+        4 => Some(Refutation::Spots(marks)),
+        6 => Some(Refutation::Berths(marks)),
+        _ => None,
+    }
+}
+
+/// The refutation by a tree of this kind, with the numbers of the tree.
+fn tree_refutation_in(
+    alloc: Global,
+    kind: u64,
+    list: &[Value],
+) -> Result<Option<Refutation>, AllocError>
+    ensures { IfOk result (λ o. o ≡ tree_refutation_in kind (items_view list.now)) }
+{
+    match marks_in(alloc, list)? {
+        Some(marks) => Ok(tree_refutation(kind, marks)),
+        None => Ok(None),
+    }
+}
+
 /// The refutation of this kind, with the numbers after it.
 fn refutation_in(alloc: Global, kind: u64, list: &[Value]) -> Result<Option<Refutation>, AllocError>
     ensures { IfOk result (λ o. o ≡ refutation_in kind (items_view list.now)) }
@@ -149,10 +175,8 @@ fn refutation_in(alloc: Global, kind: u64, list: &[Value]) -> Result<Option<Refu
         0 => Ok(area_in(list)),
         1 => Ok(row_in(list)),
         2 => Ok(column_in(list)),
-        3 => Ok(marks_in(alloc, list)?.map(Refutation::Cases)),
-        4 => Ok(marks_in(alloc, list)?.map(Refutation::Spots)),
         5 => Ok(clash_in(list)),
-        6 => Ok(marks_in(alloc, list)?.map(Refutation::Berths)),
+        3 | 4 | 6 => tree_refutation_in(alloc, kind, list),
         _ => Ok(None),
     }
 }

@@ -6,7 +6,7 @@ use Rattle.clap.specs.declared.parser.matches.ValueSource.TheVariants.{DefaultVa
 use Rattle.clap.specs.declared.builder.value_parser.Reading.TheVariants as reading
 use Rattle.command_words.specs.Given.{Given, is_given}
 use Rattle.clap.specs.Words.{App, Rule, new_rule, new_app, rows_of, found_of}
-use Rattle.clap.specs.Simple.{on_top}
+use Rattle.clap.specs.Simple.{on_top, with_rule}
 use Rattle.clap.specs.declared.builder.action.ArgAction.TheVariants.{SetTrue}
 use Rattle.command_words.specs.Names.{Text, name_of, is_flag}
 use Rattle.command_words.specs.declared.arguments.Argument.{Argument}
@@ -21,6 +21,10 @@ option_rule name = record (new_rule name) { long = Some name }
 abbrev pub flag_rule : Text → Rule
 flag_rule name = record (new_rule name) { long = Some name; action = Some SetTrue }
 
+-- an option, which may be a flag
+abbrev pub named_rule : Argument → Rule
+named_rule a = if is_flag a then flag_rule (name_of a) else option_rule (name_of a)
+
 abbrev pub rule_for : Argument → Rule
 rule_for Command = command_rule (name_of Command)
 rule_for Dossier = flag_rule (name_of Dossier)
@@ -29,6 +33,11 @@ rule_for a = option_rule (name_of a)
 
 abbrev pub arguments : List Argument
 arguments = Command ∷ Nodes ∷ Turns ∷ Workers ∷ Dossier ∷ Keep ∷ Number ∷ Ships ∷ Chambers ∷ From ∷ Now ∷ []
+
+-- a parser and options after its own arguments
+abbrev pub with_all : App → List Argument → App
+with_all app [] = app
+with_all app (a ∷ more) = with_all (with_rule app (named_rule a)) more
 
 -- no argument yet, no program's name before the words, and no help
 abbrev pub bare_parser : App

@@ -6,9 +6,9 @@ ghost use Rattle.clap.specs.declared.error.kind.ErrorKind.TheVariants.{OutOfMemo
 ghost use Rattle.command_words.specs.Names.{is_flag};
 ghost use Rattle.command_words.specs.Given.{Given, text_in, is_given};
 ghost use Rattle.command_words.specs.WordByWord.{is_good, given_of};
-ghost use Rattle.command_words.specs.Parser.{parser, bare_parser, command_rule, option_rule, flag_rule, Finds};
+ghost use Rattle.command_words.specs.Parser.{parser, bare_parser, command_rule, option_rule, flag_rule, named_rule, with_all, Finds};
 
-use crate::arguments::Argument;
+use crate::arguments::{Argument, OPTIONS};
 use clap::{Arg, ArgAction, ArgMatches, Command, Error};
 use std::alloc::{AllocError, Global};
 
@@ -51,23 +51,42 @@ fn bare<'a>(alloc: Global) -> Command<'a>
         .disable_help_flag(true)
 }
 
+// Adds an option, which may be a flag.
+fn with_named<'a>(
+    parser: Command<'a>,
+    alloc: Global,
+    option: Argument,
+) -> Result<Command<'a>, AllocError>
+    ensures { IfOk result (λ p. app_of p ≡ with_rule (app_of parser.entry) (named_rule option)) }
+{
+    if option.is_flag() {
+        with_flag(parser, alloc, option.name())
+    } else {
+        with_option(parser, alloc, option.name())
+    }
+}
+
+// Adds options in their order.
+fn with_all<'a>(
+    mut parser: Command<'a>,
+    alloc: Global,
+    options: &[Argument],
+) -> Result<Command<'a>, AllocError>
+    ensures { IfOk result (λ p. app_of p ≡ with_all (app_of parser.entry) options.now) }
+{
+    for option in options {
+        parser = with_named(parser, alloc, *option)?;
+    }
+    Ok(parser)
+}
+
 // The simple command that takes the words.
 #[tactic(auto, unfolding(crate::specs::Parser::parser))]
 fn clap_command<'a>(alloc: Global) -> Result<Command<'a>, AllocError>
     ensures { IfOk result (λ p. app_of p ≡ parser) }
 {
-    let command = bare(alloc);
-    let command = with_command(command, alloc, Argument::Command.name())?;
-    let command = with_option(command, alloc, Argument::Nodes.name())?;
-    let command = with_option(command, alloc, Argument::Turns.name())?;
-    let command = with_option(command, alloc, Argument::Workers.name())?;
-    let command = with_flag(command, alloc, Argument::Dossier.name())?;
-    let command = with_flag(command, alloc, Argument::Keep.name())?;
-    let command = with_option(command, alloc, Argument::Number.name())?;
-    let command = with_option(command, alloc, Argument::Ships.name())?;
-    let command = with_option(command, alloc, Argument::Chambers.name())?;
-    let command = with_option(command, alloc, Argument::From.name())?;
-    with_option(command, alloc, Argument::Now.name())
+    let command = with_command(bare(alloc), alloc, Argument::Command.name())?;
+    with_all(command, alloc, &OPTIONS)
 }
 
 /// What `clap` finds in good words. An error is want of memory.

@@ -4,16 +4,16 @@ ghost use Rattle.lock_model.specs.Fleet.{ship_at};
 ghost use Rattle.lock_model.specs.declared.placement.Moor.TheVariants.{Ship as AtShip};
 ghost use Rattle.lock_rules.specs.Lines.{end_of};
 ghost use Rattle.lock_rules.specs.Plan.{IsLegalLockage};
-ghost use Rattle.plan_print.specs.Words.{moor_words};
+ghost use Rattle.plan_print.specs.Words.{moor_words, spot_words};
 ghost use Rattle.plan_print.specs.Report.{lockage_line, ship_line, ship_lines, lockage_text};
 
 use crate::drawing::put_drawing;
-use crate::text::{letter, rank_word};
+use crate::text::{letter, put_named, put_word, rank_word};
 use chamber_times::lockage_end;
 use instance_text::way_word;
 use lock_model::{Instance, Lockage, MOST, Moor, Ship, Spot, deck_of};
 use no_memory::NoMemory;
-use plain_text::{put, put_number};
+use plain_text::put;
 
 /// Appends what a ship is moored to.
 fn put_moor(out: &mut Vec<u8>, moor: Moor) -> Result<(), NoMemory>
@@ -27,6 +27,18 @@ fn put_moor(out: &mut Vec<u8>, moor: Moor) -> Result<(), NoMemory>
             put(out, &[letter(host)])
         }
     }
+}
+
+/// Appends where a ship lies, and what it is moored to.
+fn put_spot(out: &mut Vec<u8>, spot: &Spot) -> Result<(), NoMemory>
+    requires { (k : ℕ) → spot.now.moor ≡ AtShip k → k < MOST }
+    ensures { OnOk result (out.new.items ≡ out.old.items ++ spot_words spot.now) }
+{
+    put_named(out, b" x ", spot.x as u64)?;
+    put_named(out, b" y ", spot.y as u64)?;
+    put_word(out, rank_word(spot.rank))?;
+    put(out, b" ")?;
+    put_moor(out, spot.moor)
 }
 
 /// Appends the line of the ship at a place of a lockage that ends at this minute.
@@ -43,20 +55,10 @@ fn put_ship_line(
     requires arrived { ship.now.arrival ≤ end }
     ensures { OnOk result (out.new.items ≡ out.old.items ++ ship_line place ship.now spot.now end) }
 {
-    put(out, b"  ")?;
-    put(out, &[letter(place)])?;
-    put(out, b" ")?;
-    put(out, ship.name.as_slice())?;
-    put(out, b" x ")?;
-    put_number(out, spot.x as u64)?;
-    put(out, b" y ")?;
-    put_number(out, spot.y as u64)?;
-    put(out, b" ")?;
-    put(out, rank_word(spot.rank))?;
-    put(out, b" ")?;
-    put_moor(out, spot.moor)?;
-    put(out, b" flow ")?;
-    put_number(out, end - ship.arrival as u64)?;
+    put(out, &[b' ', b' ', letter(place)])?;
+    put_word(out, ship.name.as_slice())?;
+    put_spot(out, spot)?;
+    put_named(out, b" flow ", end - ship.arrival as u64)?;
     put(out, b"\n")
 }
 
@@ -94,8 +96,7 @@ fn put_lockage_line(
     requires end { end ≡ end_of instance.now lockage.now }
     ensures { OnOk result (out.new.items ≡ out.old.items ++ lockage_line instance.now number lockage.now) }
 {
-    put(out, b"lockage ")?;
-    put_number(out, number)?;
+    put_named(out, b"lockage ", number)?;
     put(out, b" chamber ")?;
     put(
         out,
@@ -103,12 +104,9 @@ fn put_lockage_line(
             .name
             .as_slice(),
     )?;
-    put(out, b" ")?;
-    put(out, way_word(lockage.way))?;
-    put(out, b" start ")?;
-    put_number(out, lockage.start as u64)?;
-    put(out, b" end ")?;
-    put_number(out, end)?;
+    put_word(out, way_word(lockage.way))?;
+    put_named(out, b" start ", lockage.start as u64)?;
+    put_named(out, b" end ", end)?;
     put(out, b"\n")
 }
 

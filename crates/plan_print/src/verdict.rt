@@ -1,15 +1,16 @@
 //! The first line of a report: what was shown of the plan.
 ghost use Rattle.std.specs.Prelude.{◌≡◌, ◌<◌, [], ◌∷◌, ◌++◌, length, All, OnOk, decimal, codes};
 ghost use Rattle.std.specs.List.{flat_map};
-ghost use Rattle.lock_model.specs.Fleet.{ship_at};
+ghost use Rattle.lock_model.specs.Fleet.{chamber_at, ship_at};
 ghost use Rattle.lock_model.specs.declared.verdict.Verdict.TheVariants.{OpenTurns};
 ghost use Rattle.lock_rules.specs.Plan.{IsLegal};
 ghost use Rattle.plan_print.specs.Report.{IsOfInstance, verdict_text, verdict_line};
 
+use crate::text::{put_named, put_word};
 use chamber_times::cost;
 use lock_model::{Instance, Plan, Ships, Verdict};
 use no_memory::NoMemory;
-use plain_text::{put, put_number};
+use plain_text::put;
 
 /// Appends the names of ships, each after a space.
 fn put_names(out: &mut Vec<u8>, instance: &Instance, ships: &Ships) -> Result<(), NoMemory>
@@ -17,13 +18,32 @@ fn put_names(out: &mut Vec<u8>, instance: &Instance, ships: &Ships) -> Result<()
     ensures { OnOk result (out.new.items ≡ out.old.items ++ flat_map (λ s. 32 ∷ (ship_at instance.now s).name) ships.now) }
 {
     for &ship in ships.as_slice() {
-        put(out, b" ")?;
-        put(
+        put_word(
             out,
             instance.ships.as_slice()[ship as usize].name.as_slice(),
         )?;
     }
     Ok(())
+}
+
+/// Appends how many turns were spent, and in which chamber.
+fn put_turns(
+    out: &mut Vec<u8>,
+    instance: &Instance,
+    chamber: u8,
+    turns: u32,
+) -> Result<(), NoMemory>
+    requires { chamber < length instance.now.chambers }
+    ensures { OnOk result (out.new.items ≡ out.old.items ++ (codes "open turns " ++ decimal turns ++ codes " chamber " ++ (chamber_at instance.now chamber).name)) }
+{
+    put_named(out, b"open turns ", turns as u64)?;
+    put(out, b" chamber ")?;
+    put(
+        out,
+        instance.chambers.as_slice()[chamber as usize]
+            .name
+            .as_slice(),
+    )
 }
 
 /// Appends that the turns of the placers were spent on these ships in this chamber.
@@ -39,29 +59,18 @@ fn put_open_turns(
     requires ships_in { All (λ s. s < length instance.now.ships) ships.now }
     ensures { OnOk result (out.new.items ≡ out.old.items ++ verdict_text instance.now (OpenTurns chamber ships.now turns low)) }
 {
-    put(out, b"open turns ")?;
-    put_number(out, turns as u64)?;
-    put(out, b" chamber ")?;
-    put(
-        out,
-        instance.chambers.as_slice()[chamber as usize]
-            .name
-            .as_slice(),
-    )?;
+    put_turns(out, instance, chamber, turns)?;
     put(out, b" ships")?;
     put_names(out, instance, ships)?;
-    put(out, b" low ")?;
-    put_number(out, low)
+    put_named(out, b" low ", low)
 }
 
 /// Appends that the budget of nodes was spent.
 fn put_open_nodes(out: &mut Vec<u8>, used: u32, low: u64) -> Result<(), NoMemory>
     ensures { OnOk result (out.new.items ≡ out.old.items ++ (codes "open nodes " ++ decimal used ++ codes " low " ++ decimal low)) }
 {
-    put(out, b"open nodes ")?;
-    put_number(out, used as u64)?;
-    put(out, b" low ")?;
-    put_number(out, low)
+    put_named(out, b"open nodes ", used as u64)?;
+    put_named(out, b" low ", low)
 }
 
 /// Appends what was shown of the plan, without its cost.
@@ -94,7 +103,6 @@ pub(crate) fn put_verdict_line(
     ensures { OnOk result (out.new.items ≡ out.old.items ++ verdict_line instance.now plan.now verdict.now) }
 {
     put_verdict(out, instance, verdict)?;
-    put(out, b" cost ")?;
-    put_number(out, cost(instance, plan))?;
+    put_named(out, b" cost ", cost(instance, plan))?;
     put(out, b"\n")
 }

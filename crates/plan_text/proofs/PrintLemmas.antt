@@ -11,17 +11,17 @@ use Rattle.line_text.specs.Printed.{line}
 use Rattle.instance_text.proofs.PrintLemmas.{line_is}
 use Rattle.plan_text.specs.Printing.{head_words, berths_of, lockage_lines, plan_lines, plan_text}
 
-seven : (o p q r s t u v : List ℕ) → o ++ p ++ q ++ r ++ s ++ t ++ u ++ v ≡ o ++ (p ++ (q ++ (r ++ (s ++ (t ++ (u ++ v))))))
-seven o p q r s t u v = simp append_assoc
+six : (o p q r s t : List ℕ) → o ++ p ++ q ++ r ++ s ++ t ≡ o ++ (p ++ (q ++ (r ++ (s ++ t))))
+six o p q r s t = simp append_assoc
 
-pub head_line : (o n w s : List ℕ) → o ++ codes "lockage " ++ n ++ codes " " ++ w ++ codes " " ++ s ++ codes "\n" ≡ o ++ line (codes "lockage" ∷ n ∷ w ∷ s ∷ [])
-head_line o n w s = seven o (codes "lockage ") n (codes " ") w (codes " ") s (codes "\n") ∙ ap (λ xs. o ++ xs) (sym (line_is (codes "lockage" ∷ n ∷ w ∷ s ∷ []) (10 ∷ [])))
+pub head_line : (o n w s : List ℕ) → o ++ codes "lockage" ++ 32 ∷ n ++ 32 ∷ w ++ 32 ∷ s ++ codes "\n" ≡ o ++ line (codes "lockage" ∷ n ∷ w ∷ s ∷ [])
+head_line o n w s = six o (codes "lockage") (32 ∷ n) (32 ∷ w) (32 ∷ s) (codes "\n") ∙ ap (λ xs. o ++ xs) (sym (line_is (codes "lockage" ∷ n ∷ w ∷ s ∷ []) (10 ∷ [])))
 
-eleven : (o p q r s t u v w x y z : List ℕ) → o ++ p ++ q ++ r ++ s ++ t ++ u ++ v ++ w ++ x ++ y ++ z ≡ o ++ (p ++ (q ++ (r ++ (s ++ (t ++ (u ++ (v ++ (w ++ (x ++ (y ++ z))))))))))
-eleven o p q r s t u v w x y z = simp append_assoc
+eight : (o p q r s t u v : List ℕ) → o ++ p ++ q ++ (r ++ s ++ t) ++ u ++ v ≡ o ++ (p ++ (q ++ (r ++ (s ++ (t ++ (u ++ v))))))
+eight o p q r s t u v = simp append_assoc
 
-pub berth_line : (o n x y r h : List ℕ) → o ++ codes "berth " ++ n ++ codes " " ++ x ++ codes " " ++ y ++ codes " " ++ r ++ codes " " ++ h ++ codes "\n" ≡ o ++ line (codes "berth" ∷ n ∷ x ∷ y ∷ r ∷ h ∷ [])
-berth_line o n x y r h = eleven o (codes "berth ") n (codes " ") x (codes " ") y (codes " ") r (codes " ") h (codes "\n") ∙ ap (λ xs. o ++ xs) (sym (line_is (codes "berth" ∷ n ∷ x ∷ y ∷ r ∷ h ∷ []) (10 ∷ [])))
+pub berth_line : (o n x y r h : List ℕ) → o ++ codes "berth" ++ 32 ∷ n ++ (32 ∷ x ++ 32 ∷ y ++ 32 ∷ r) ++ 32 ∷ h ++ codes "\n" ≡ o ++ line (codes "berth" ∷ n ∷ x ∷ y ∷ r ∷ h ∷ [])
+berth_line o n x y r h = eight o (codes "berth") (32 ∷ n) (32 ∷ x) (32 ∷ y) (32 ∷ r) (32 ∷ h) (codes "\n") ∙ ap (λ xs. o ++ xs) (sym (line_is (codes "berth" ∷ n ∷ x ∷ y ∷ r ∷ h ∷ []) (10 ∷ [])))
 
 -- a line and the lines after it
 pub lockage_is : (I : Instance) (l : Lockage) (o first last ships : List ℕ) (spots : List Spot) → ships ≡ l.ships → spots ≡ l.spots → first ≡ o ++ line (head_words I l) → last ≡ first ++ flat_map line (berths_of I ships ships spots) → last ≡ o ++ flat_map line (lockage_lines I l)

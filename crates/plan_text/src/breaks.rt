@@ -9,7 +9,8 @@ use chamber_times::BrokenTime;
 use lock_model::{Instance, Plan};
 use mooring_rules::{Broken, BrokenPlan};
 use no_memory::NoMemory;
-use plain_text::{put, put_number};
+use plain_text::put;
+use plan_print::{put_named, put_word};
 use std::alloc::Global;
 
 // The ships of the lockage at a place, none where the plan has no such lockage.
@@ -36,10 +37,9 @@ fn name_of(instance: &Instance, ship: u8) -> &[u8]
 fn put_name(out: &mut Vec<u8>, instance: &Instance, ships: &[u8], place: u8) -> Result<(), NoMemory>
     ensures { OnOk result (out.new.items ≡ out.old.items ++ (codes " " ++ name_in instance.now ships.now place)) }
 {
-    put(out, b" ")?;
     match ships.get(place as usize) {
-        Some(&ship) => put(out, name_of(instance, ship)),
-        None => Ok(()),
+        Some(&ship) => put_word(out, name_of(instance, ship)),
+        None => put(out, b" "),
     }
 }
 
@@ -97,8 +97,7 @@ fn put_placement(
 fn put_head(out: &mut Vec<u8>, place: u8) -> Result<(), NoMemory>
     ensures { OnOk result (out.new.items ≡ out.old.items ++ lockage_head place) }
 {
-    put(out, b"illegal lockage ")?;
-    put_number(out, place as u64 + 1)?;
+    put_named(out, b"illegal lockage ", place as u64 + 1)?;
     put(out, b" ")
 }
 

@@ -4,7 +4,8 @@ ghost use Rattle.plan_text.specs.FaultTexts.{number_of, name_of, fault_text};
 
 use crate::kinds::{BadPlan, PlanKind};
 use no_memory::NoMemory;
-use plain_text::{put, put_number};
+use plain_text::put;
+use plan_print::{put_named, put_word};
 use std::alloc::Global;
 
 // The number of a kind of fault.
@@ -38,12 +39,9 @@ fn name_of(kind: PlanKind) -> &'static [u8]
 fn put_fault(out: &mut Vec<u8>, bad: BadPlan) -> Result<(), NoMemory>
     ensures { OnOk result (out.new.items ≡ out.old.items ++ fault_text bad.line bad.kind) }
 {
-    put(out, b"plan line ")?;
-    put_number(out, bad.line)?;
-    put(out, b" fault ")?;
-    put_number(out, number_of(bad.kind) as u64)?;
-    put(out, b" ")?;
-    put(out, name_of(bad.kind))?;
+    put_named(out, b"plan line ", bad.line)?;
+    put_named(out, b" fault ", number_of(bad.kind) as u64)?;
+    put_word(out, name_of(bad.kind))?;
     put(out, b"\n")
 }
 

@@ -9,7 +9,7 @@ use crate::kinds::{BadPlan, PlanKind, bad};
 use crate::moorings::has_berth;
 use crate::named::{chamber_named, host, ship_named};
 use crate::words::{number, rank, way};
-use line_text::{Progress, check, word_at};
+use line_text::{Progress, word_at};
 use lock_model::{Instance, MOST, SHIPS};
 
 /// What the line of a lockage says that comes after so many. The first fault is, in this order:
@@ -20,8 +20,12 @@ fn read_head(instance: &Instance, count: usize, words: &[&[u8]]) -> Result<Head,
     ensures value { result ≡ read_head instance.now count (texts words.now) }
     ensures room { IfOk result (λ h. count < SHIPS) }
 {
-    check(words.len() == 4, PlanKind::Count)?;
-    check(count < instance.most_lockages(), PlanKind::Range)?;
+    if words.len() != 4 {
+        return Err(PlanKind::Count);
+    }
+    if count >= instance.most_lockages() {
+        return Err(PlanKind::Range);
+    }
     let chamber = chamber_named(instance, word_at(words, 1))?;
     let way = way(word_at(words, 2))?;
     let start = number(word_at(words, 3), 1_000_000_000)?;
@@ -38,7 +42,9 @@ fn new_ship(instance: &Instance, berths: &[Berth], word: &[u8]) -> Result<u8, Pl
     ensures { result ≡ new_ship instance.now berths.now word.now }
 {
     let ship = ship_named(instance, word)?;
-    check(!has_berth(berths, ship), PlanKind::Twice)?;
+    if has_berth(berths, ship) {
+        return Err(PlanKind::Twice);
+    }
     Ok(ship)
 }
 
@@ -54,8 +60,12 @@ fn read_berth(
     ensures value { result ≡ read_berth instance.now line berths.now (texts words.now) }
     ensures room { IfOk result (λ b. length berths.now < MOST) }
 {
-    check(words.len() == 6, PlanKind::Count)?;
-    check(berths.len() < MOST, PlanKind::Range)?;
+    if words.len() != 6 {
+        return Err(PlanKind::Count);
+    }
+    if berths.len() >= MOST {
+        return Err(PlanKind::Range);
+    }
     let ship = new_ship(instance, berths, word_at(words, 1))?;
     let x = number(word_at(words, 2), 100_000)?;
     let y = number(word_at(words, 3), 100_000)?;
@@ -82,7 +92,9 @@ fn add_berth(
     ensures read { IfOk result (λ p. add_berth instance.now line draft.old (texts words.now) ≡ Ok (p, draft.new)) }
     ensures bad { IfErr result (λ kind. add_berth instance.now line draft.old (texts words.now) ≡ Err kind) }
 {
-    check(draft.is_open(), PlanKind::Loose)?;
+    if !draft.is_open() {
+        return Err(PlanKind::Loose);
+    }
     let berth = read_berth(instance, line, draft.berths(), words)?;
     draft.push_berth(berth);
     Ok(Progress::More)
@@ -109,7 +121,9 @@ fn read_end(draft: &Draft, words: &[&[u8]]) -> Result<Progress, PlanKind>
     ensures read { IfOk result (λ p. read_end draft.now (texts words.now) ≡ Ok (p, draft.now)) }
     ensures bad { IfErr result (λ kind. read_end draft.now (texts words.now) ≡ Err kind) }
 {
-    check(words.len() == 1, PlanKind::Count)?;
+    if words.len() != 1 {
+        return Err(PlanKind::Count);
+    }
     Ok(Progress::Ended)
 }
 
@@ -120,10 +134,13 @@ fn read_other(instance: &Instance, draft: &mut Draft, words: &[&[u8]]) -> Result
     ensures read { IfOk result (λ p. read_other instance.now draft.old (texts words.now) ≡ Ok (p, draft.new)) }
     ensures bad { IfErr result (λ kind. read_other instance.now draft.old (texts words.now) ≡ Err kind) }
 {
-    match word_at(words, 0) {
-        b"lockage" => add_lockage(instance, draft, words),
-        b"end" => read_end(draft, words),
-        _ => Err(PlanKind::Word),
+    let word = word_at(words, 0);
+    if word == b"lockage".as_slice() {
+        add_lockage(instance, draft, words)
+    } else if word == b"end".as_slice() {
+        read_end(draft, words)
+    } else {
+        Err(PlanKind::Word)
     }
 }
 

@@ -1,7 +1,8 @@
 //! Printing plan texts.
-ghost use Rattle.std.specs.Prelude.{◌≡◌, ◌++◌, ◌∷◌, ◌<◌, ◌≤◌, [], length, All, IfOk, OnOk};
+ghost use Rattle.std.specs.Prelude.{◌≡◌, ◌++◌, ◌∷◌, ◌<◌, ◌≤◌, [], length, All, IfOk, OnOk, decimal};
 ghost use Rattle.std.specs.List.{flat_map};
 ghost use Rattle.line_text.specs.Printed.{line};
+ghost use Rattle.plan_print.specs.Words.{rank_word};
 ghost use Rattle.plan_text.specs.Printing.{host_word, head_words, berth_words, berths_of, lockage_lines, plan_text};
 ghost use Rattle.plan_text.specs.Reading.{IsPlanText, HasPlanText};
 ghost use Rattle.plan_text.specs.Writable.{IsWritableMoor, IsWritableSpot, IsWritable};
@@ -9,8 +10,8 @@ ghost use Rattle.plan_text.specs.Writable.{IsWritableMoor, IsWritableSpot, IsWri
 use instance_text::way_word;
 use lock_model::{Instance, Lockage, Moor, Plan, Spot};
 use no_memory::NoMemory;
-use plain_text::{put, put_number};
-use plan_print::rank_word;
+use plain_text::put;
+use plan_print::{put_named, put_word, rank_word};
 use std::alloc::Global;
 
 /// The word for what a ship of these ships is moored to.
@@ -34,13 +35,20 @@ fn put_head(out: &mut Vec<u8>, instance: &Instance, lockage: &Lockage) -> Result
     ensures { OnOk result (out.new.items ≡ out.old.items ++ line (head_words instance.now lockage.now)) }
 {
     let chamber = &instance.chambers.as_slice()[lockage.chamber as usize];
-    put(out, b"lockage ")?;
-    put(out, chamber.name.as_slice())?;
-    put(out, b" ")?;
-    put(out, way_word(lockage.way))?;
-    put(out, b" ")?;
-    put_number(out, u64::from(lockage.start))?;
+    put(out, b"lockage")?;
+    put_word(out, chamber.name.as_slice())?;
+    put_word(out, way_word(lockage.way))?;
+    put_named(out, b" ", u64::from(lockage.start))?;
     put(out, b"\n")
+}
+
+/// Appends the x, the y and the rank of a spot.
+fn put_place(out: &mut Vec<u8>, spot: &Spot) -> Result<(), NoMemory>
+    ensures { OnOk result (out.new.items ≡ out.old.items ++ (32 ∷ decimal spot.now.x ++ 32 ∷ decimal spot.now.y ++ 32 ∷ rank_word spot.now.rank)) }
+{
+    put_named(out, b" ", u64::from(spot.x))?;
+    put_named(out, b" ", u64::from(spot.y))?;
+    put_word(out, rank_word(spot.rank))
 }
 
 /// Appends the line of a berth.
@@ -56,19 +64,13 @@ fn put_berth(
     requires spot { IsWritableSpot (length ships.now) spot.now }
     ensures { OnOk result (out.new.items ≡ out.old.items ++ line (berth_words instance.now ships.now ship spot.now)) }
 {
-    put(out, b"berth ")?;
-    put(
+    put(out, b"berth")?;
+    put_word(
         out,
         instance.ships.as_slice()[ship as usize].name.as_slice(),
     )?;
-    put(out, b" ")?;
-    put_number(out, u64::from(spot.x))?;
-    put(out, b" ")?;
-    put_number(out, u64::from(spot.y))?;
-    put(out, b" ")?;
-    put(out, rank_word(spot.rank))?;
-    put(out, b" ")?;
-    put(out, host_word(instance, ships, spot.moor))?;
+    put_place(out, spot)?;
+    put_word(out, host_word(instance, ships, spot.moor))?;
     put(out, b"\n")
 }
 

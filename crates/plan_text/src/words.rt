@@ -27,9 +27,11 @@ pub fn way(word: &[u8]) -> Result<Way, PlanKind>
 pub fn rank(word: &[u8]) -> Result<Rank, PlanKind>
     ensures { result ≡ rank word.now }
 {
-    match word {
-        b"left" => Ok(Rank::Left),
-        b"right" => Ok(Rank::Right),
-        _ => Err(PlanKind::Word),
+    if word == b"left".as_slice() {
+        Ok(Rank::Left)
+    } else if word == b"right".as_slice() {
+        Ok(Rank::Right)
+    } else {
+        Err(PlanKind::Word)
     }
 }

@@ -7,11 +7,6 @@ use Rattle.plan_text.proofs.breaks.put_head.Goals as goal
 pub returns : goal.returns
 unfolding lockage_head
 returns c =
-    let head = codes "illegal lockage " in
-    let number = decimal (c.args.place + 1) in
-    IfOk-equal c.put-2.result _ _ _ c.put-2.ensures
-    (ap (λ t. t ++ codes " ")
-    (c.in_ok-put_number.ensures
-    ∙ ap (λ t. t ++ number) c.in_ok-put.ensures
-    ∙ append_assoc c.args.out.now.items head number)
-    ∙ append_assoc c.args.out.now.items (head ++ number) (codes " "))
+    let head = codes "illegal lockage " ++ decimal (c.args.place + 1) in
+    IfOk-equal c.put.result _ _ _ c.put.ensures
+    (ap (λ t. t ++ codes " ") c.in_ok-put_named.ensures ∙ append_assoc c.args.out.now.items head (codes " "))

@@ -16,6 +16,6 @@ returns c =
     let ship : get_or c.as_slice.result.now s c.index-as_slice-ship.result ≡ ship_at c.args.instance.now s =
     get_or_default c.as_slice.result.now s c.index-as_slice-ship.result no_ship (subst (λ ss. s < length ss) (sym c.as_slice.ensures.value) c.requires.ship) ∙ ap (λ ss. get_or ss s no_ship) c.as_slice.ensures.value in
     let name = c.as_slice-2.ensures.value ∙ ap (λ (x : Ship). x.name) ship in
-    IfOk-equal c.put-9.result _ _ _ c.put-9.ensures
-    (rw (c.in_ok-put-8.ensures, c.host_word.ensures, c.in_ok-put-7.ensures, c.in_ok-put-6.ensures, c.rank_word.ensures, c.in_ok-put-5.ensures, c.in_ok-put_number-2.ensures, c.from-2.ensures, c.in_ok-put-4.ensures, c.in_ok-put_number.ensures, c.from.ensures, c.in_ok-put-3.ensures, c.in_ok-put-2.ensures, name, c.in_ok-put.ensures)
+    IfOk-equal c.put-2.result _ _ _ c.put-2.ensures
+    (rw (c.in_ok-put_word-2.ensures, c.host_word.ensures, c.in_ok-put_place.ensures, c.in_ok-put_word.ensures, name, c.in_ok-put.ensures)
     (berth_line c.args.out.now.items (ship_at c.args.instance.now s).name (decimal p.x) (decimal p.y) (rank_word p.rank) (host_word c.args.instance.now c.args.ships.now p.moor)))

@@ -15,6 +15,6 @@ returns c =
     let chamber : c.index-as_slice-lockage.result ≡ chamber_at c.args.instance.now l.chamber =
     get_or_read c.as_slice.result.now l.chamber c.index-as_slice-lockage.result (subst (λ cs. l.chamber < length cs) (sym c.as_slice.ensures.value) c.requires.chamber) c.index-as_slice-lockage.is no_chamber ∙ ap (λ cs. get_or cs l.chamber no_chamber) c.as_slice.ensures.value in
     let name = c.as_slice-2.ensures.value ∙ ap (λ (x : Chamber). x.name) chamber in
-    IfOk-equal c.put-6.result _ _ _ c.put-6.ensures
-    (rw (c.in_ok-put_number.ensures, c.from.ensures, c.in_ok-put-5.ensures, c.in_ok-put-4.ensures, c.way_word.ensures, c.in_ok-put-3.ensures, c.in_ok-put-2.ensures, name, c.in_ok-put.ensures)
+    IfOk-equal c.put-2.result _ _ _ c.put-2.ensures
+    (rw (c.in_ok-put_named.ensures, c.from.ensures, c.in_ok-put_word-2.ensures, c.way_word.ensures, c.in_ok-put_word.ensures, name, c.in_ok-put.ensures)
     (head_line c.args.out.now.items (chamber_at c.args.instance.now l.chamber).name (way_word l.way) (decimal l.start)))
