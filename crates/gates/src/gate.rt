@@ -5,12 +5,18 @@
 pub enum Point {
     /// It took a node of this depth, and has done no work on it.
     Took(u8),
-    /// It read this number from the shared best cost.
+    /// It read this number from the shared best cost, in minutes; or from the book that it has alone.
     Read(u64),
     /// It is about to work out prices at its node, which has this depth.
     Prices(u8),
     /// It knows so many cuts as it begins a round of prices.
     Knows(u64),
+    /// It has worked out so many nodes below the one that it took.
+    Ahead(u32),
+    /// It has the book alone, of which so many nodes are used.
+    Used(u32),
+    /// It found that no plan costs less, in minutes.
+    Low(u64),
     /// It closed, split or parked its node.
     Closed,
     /// It has nothing to do, and begins to wait.
@@ -37,7 +43,8 @@ impl Stage {
     }
 }
 
-/// What workers call as they go, so that a test can hold one of them. No claim rests on it.
+/// What workers and the driver call as they go, so that a test can hold one of them, and the program can tell
+/// how far a search is. No claim rests on it.
 pub trait Gate {
     /// Lets this worker pass, at once or after a time.
     fn at(&self, worker: u8, point: Point);

@@ -64,7 +64,7 @@ impl Gate for LastGate {
         match point {
             Point::Read(cost) => self.read(worker, cost),
             Point::Idle => self.idle(worker),
-            Point::Took(_) | Point::Prices(_) | Point::Knows(_) | Point::Closed => {}
+            _ => {}
         }
     }
 }

@@ -1,7 +1,7 @@
 //! What workers call as they go.
 //!
-//! Each worker of a search tells its `Gate` where it is (`Point`). The program's gate, `OpenGate`, lets all
-//! pass at once. `MeetGate`, `LastGate` and `CutGate` hold one worker for a time, at a node that it took or
+//! Each worker of a search, and its driver, tells its `Gate` where it is (`Point`). `OpenGate` lets all
+//! pass at once, as does that of the program, which tells how far the search is. `MeetGate`, `LastGate` and `CutGate` hold one worker for a time, at a node that it took or
 //! is about to price (`Stage`), so that tests can have workers meet, one be the last, or one learn the cuts
 //! of another; each ends after its limit of looks. No claim rests on a gate, and none has a contract or
 //! definitions.

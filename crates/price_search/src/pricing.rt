@@ -234,6 +234,11 @@ impl Pricing {
         self.begin();
     }
 
+    /// The greatest cost, in minutes, that rounds have found the node in hand to reach.
+    pub fn reached(&self) -> u64 {
+        reached_by(self.ascent.best_sum())
+    }
+
     /// The best prices of the node in hand, as they are offered to the nodes below it.
     pub fn offer(&self) -> Offer {
         let best = self.ascent.best();
