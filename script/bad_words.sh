@@ -27,6 +27,7 @@ check_option() {
     -o | --output) refuse "-o needs the name of a file after it, and may stand once"; return ;;
     --clock) check_clock "${1#--clock}" "${2-}"; return ;;
     --seconds) check_seconds "${1#--seconds}" "${2-}"; return ;;
+    --progress) check_progress; return ;;
     --drop | --plan-text) check_replan_word "$name"; return ;;
     --*) ;;
     *) refuse_short "$1"; return ;;
@@ -121,6 +122,14 @@ check_seconds() {
     refuse "--seconds and --nodes can't stand together"
   else
     refuse "--seconds may stand once"
+  fi
+}
+
+check_progress() {
+  if searches "$command"; then
+    refuse "--progress stands alone and once"
+  else
+    refuse "--progress is for solve, resume and replan, and not for ${command:-this}"
   fi
 }
 

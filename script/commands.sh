@@ -24,6 +24,9 @@ reads_dossier() { [[ " check lower resume picture " == *" $1 "* ]]; }
 # whether a search of the command can be kept, and so be cut into parts
 takes_seconds() { [[ $1 = solve || $1 = resume ]]; }
 
+# whether how far a command's search is can be shown
+searches() { [[ " solve resume replan " == *" $1 "* ]]; }
+
 # the options that a command takes
 options_of() {
   case $1 in
@@ -40,6 +43,7 @@ own_options_of() {
   echo "-o"
   if takes_clock "$1"; then echo "--clock"; fi
   if takes_seconds "$1"; then echo "--seconds"; fi
+  if searches "$1"; then echo "--progress"; fi
   if [ "$1" = replan ]; then echo "--drop --plan-text"; fi
 }
 

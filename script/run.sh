@@ -1,4 +1,8 @@
-# Runs the program and keeps its answer in a file; on a terminal shows how long it has been at work.
+# Runs the program and keeps its answer in a file; on a terminal, or where --progress asks for it, shows how long it has been
+# at work, and how far a search is.
+
+# Only who asks for the program's numbers gets them.
+unset GLOCK_PROGRESS
 
 # sets answer and status
 run_program() {
@@ -9,7 +13,13 @@ run_program() {
   elif [ -n "$input" ]; then
     exec <"$input"
   fi
-  "${run[@]}" "${program_words[@]}" <&0 >"$answer" &
+  if shows_numbers; then
+    numbers=$room/numbers
+    GLOCK_PROGRESS=1 "${run[@]}" "${program_words[@]}" <&0 >"$answer" 2>"$numbers" &
+  else
+    numbers=
+    "${run[@]}" "${program_words[@]}" <&0 >"$answer" &
+  fi
   running=$!
   trap 'stop_program INT' INT
   trap 'stop_program TERM' TERM
@@ -20,6 +30,9 @@ run_program() {
   end_watch
   trap - INT TERM HUP
 }
+
+# The kit's run builds the program first, which is shown in their place.
+shows_numbers() { searches "$command" && ! is_unproved_run && { $wants_progress || [ -t 2 ]; }; }
 
 # Who stops the script stops the program, and the script ends by the same signal.
 stop_program() {
@@ -33,8 +46,8 @@ start_watch() {
   watch= begun=${begun:-$SECONDS}
   if is_unproved_run; then
     watch_build &
-  elif [ -t 2 ]; then
-    show_time_gone &
+  elif [ -t 2 ] || [ -n "$numbers" ]; then
+    show_progress &
   else
     return 0
   fi
@@ -47,12 +60,29 @@ end_watch() {
   kill "$watch" 2>/dev/null
   watch=
   if [ -t 2 ] && [ $((SECONDS - begun)) -ge 1 ]; then printf '\r\033[K' >&2; fi
+  # what the program said beside its numbers
+  [ -z "$numbers" ] || grep -av '^nodes ' "$numbers" >&2
 }
 
-show_time_gone() {
-  sleep 2
+# Who reads what the script writes doesn't wait for a last sleep.
+show_progress() {
+  sleep 2 >/dev/null 2>&1
   while :; do
-    printf '\rglock: at work for %s' "$(minutes $((SECONDS - begun)))" >&2
-    sleep 1
+    if [ -t 2 ]; then printf '\r\033[Kglock: %s' "$(progress)" >&2; else say "$(progress)"; fi
+    sleep 1 >/dev/null 2>&1
   done
+}
+
+# The time gone, and the last numbers of the program, if there are any; the gap is rounded up, so that only a proof has 0.00.
+progress() {
+  local gone line gap=0
+  gone=$(minutes $((SECONDS - begun)))
+  line=$([ -z "$numbers" ] || grep -a '^nodes ' "$numbers" | tail -n 1)
+  if ! [[ $line =~ ^nodes\ ([0-9]+)\ cost\ ([0-9]+)\ low\ ([0-9]+)$ ]]; then
+    echo "at work for $gone"
+    return
+  fi
+  local nodes=${BASH_REMATCH[1]} cost=${BASH_REMATCH[2]} low=${BASH_REMATCH[3]}
+  if [ "$cost" -gt "$low" ]; then gap=$((((cost - low) * 10000 + cost - 1) / cost)); fi
+  printf '%s, steps %d, cost %d, low %d, gap %d.%02d %%\n' "$gone" "$nodes" "$cost" "$low" $((gap / 100)) $((gap % 100))
 }

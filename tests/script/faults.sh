@@ -40,6 +40,9 @@ solve --nodes=5 --seconds=5 | --seconds and --nodes can't stand together
 solve --seconds 5 --seconds 5 | --seconds may stand once
 check --seconds 5 | --seconds is for solve and resume, and not for check
 replan --seconds 5 | --seconds is for solve and resume, and not for replan
+solve --progress --progress | --progress stands alone and once
+resume --progress=1 | --progress stands alone and once
+check --progress | --progress is for solve, resume and replan, and not for check
 solve --keep=1 | --keep stands alone
 check --keep | --keep isn't for check; check takes -o
 replan evening.lock evening.plan | replan needs --now and the minute that it is, or --from

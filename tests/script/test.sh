@@ -53,7 +53,7 @@ rows() {
 }
 
 cp "$top"/examples/evening.lock "$top"/examples/evening.plan "$top"/examples/evening-early.plan "$top"/examples/two-chambers.lock "$top"/examples/day-40.lock "$room"
-for tests in faults files replans seconds kit install tables; do . "$top/tests/script/$tests.sh"; done
+for tests in faults files replans seconds progress kit install tables; do . "$top/tests/script/$tests.sh"; done
 
 echo "$passed passed, $failed failed"
 [ $failed = 0 ]

@@ -1,8 +1,11 @@
 //! The program `glock`: the words of its command line, standard input and standard output, and the
-//! status's number as its exit status. All that it does is done by `lock_top::run`.
+//! status's number as its exit status. All that it does is done by `lock_top::run`; `progress` tells on
+//! standard error how far it is, where the environment asks for that.
 #![tactic(auto)]
 
-use gates::OpenGate;
+mod progress;
+
+use crate::progress::ProgressGate;
 use lock_io::{StdSink, StdSource, write_all_of};
 use lock_top::{Status, run};
 use run_answers::{NoWords, given_words, no_memory};
@@ -40,7 +43,7 @@ fn main(rt: HostRuntime) -> ExitCode {
                 words.as_slice(),
                 &mut source,
                 &mut sink,
-                &OpenGate,
+                &ProgressGate::new(&rt),
             )
         }
         Err(_) => answer_no_memory(&rt),

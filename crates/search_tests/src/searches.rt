@@ -1,4 +1,5 @@
 //! Searches.
 mod driving;
+mod telling;
 mod threads;
 mod workers;

@@ -42,7 +42,7 @@ fn work_whole<L: Ledger, W: Wait, G: Gate>(
     end(post, worker, held.id, fate)
 }
 
-// Begins a stretch with the held node, and works out the nodes below it.
+// Begins a stretch with the held node, and works out the nodes below it. The gate is told how many.
 fn go_below<'s, L: Ledger, W: Wait, G: Gate>(
     post: &Post<'s, L, W, G>,
     worker: &mut Worker<L>,
@@ -61,9 +61,13 @@ fn go_below<'s, L: Ledger, W: Wait, G: Gate>(
     stretch.clear();
     worker.trail.clear();
     append(post, worker, stretch, foreseen, ending)?;
+    let before = worker.worked;
     let most = worker.reach;
     worker.reach = (2 * most).min(LONG);
-    walk(post, worker, stretch, best, most)
+    walk(post, worker, stretch, best, most)?;
+    let below = worker.worked.saturating_sub(before);
+    post.gate.at(worker.number, Point::Ahead(below));
+    Ok(())
 }
 
 // Works on the held node, which lacks ships, and on the nodes below it.

@@ -12,13 +12,14 @@ use crate::held::take;
 use crate::working::work;
 use book_core::Book;
 use book_rules::SlotState;
+use gates::{Gate, OpenGate};
 use no_memory::NoMemory;
 use node_work::Search;
 use std::alloc::Global;
 
 // Takes slots and works on them, until nothing is open or the nodes are spent.
 #[tactic(auto, using(crate::proofs::DrivenLemmas::driven_then, crate::proofs::DrivenLemmas::driven_none, crate::proofs::DrivenLemmas::own_still))]
-fn drive_nodes(driver: &mut Driver<'_>, book: &mut Book) -> Result<(), NoMemory>
+fn drive_nodes<G: Gate>(driver: &mut Driver<'_, G>, book: &mut Book) -> Result<(), NoMemory>
     requires free { HoldsNothing book.old }
     requires running { IsRunning book.old }
     requires own { IsOwnSearch book.old driver.old.search }
@@ -35,8 +36,8 @@ fn drive_nodes(driver: &mut Driver<'_>, book: &mut Book) -> Result<(), NoMemory>
 /// Takes slots and works on them as long as fewer nodes are used than `most`. True where it came to an
 /// end before: nothing is open, or the budget is spent.
 #[tactic(auto, using(crate::proofs::DrivenLemmas::driven_then, crate::proofs::DrivenLemmas::driven_none, crate::proofs::DrivenLemmas::own_still))]
-pub(crate) fn drive_some(
-    driver: &mut Driver<'_>,
+pub(crate) fn drive_some<G: Gate>(
+    driver: &mut Driver<'_, G>,
     book: &mut Book,
     most: u32,
 ) -> Result<bool, NoMemory>
@@ -100,7 +101,7 @@ fn close_parked(book: &mut Book)
 /// Drives the search of a book to its end, as `drive` does, with what a driver has.
 #[inline(never)]
 #[tactic(auto, using(crate::proofs::TidyLemmas::tidied_ends, crate::proofs::DrivenLemmas::driven_then, crate::proofs::DrivenLemmas::driven_cost))]
-pub(crate) fn finish(driver: &mut Driver<'_>, book: &mut Book) -> Result<(), NoMemory>
+pub(crate) fn finish<G: Gate>(driver: &mut Driver<'_, G>, book: &mut Book) -> Result<(), NoMemory>
     requires free { HoldsNothing book.old }
     requires running { IsRunning book.old }
     requires own { IsOwnSearch book.old driver.old.search }
@@ -127,6 +128,8 @@ pub fn drive(alloc: Global, book: &mut Book) -> Result<(), NoMemory>
     ensures driven { IsDriven book.old book.new }
 {
     let case = book.case().copy();
-    let mut driver = Driver::new(alloc, Search::new(&case.instance, case.turns));
+    let gate = OpenGate;
+    let search = Search::new(&case.instance, case.turns);
+    let mut driver = Driver::new(alloc, &gate, search);
     finish(&mut driver, book)
 }

@@ -134,7 +134,7 @@ fn most_labels(case: &Case) -> u64 {
 // Begins with prices: what each ship costs in the best plan; without them where memory is wanting. What
 // prices are kept in is large, so it is put where it stays.
 #[inline(never)]
-fn begin_pricing(driver: &mut Driver<'_>, book: &Book, first: FirstNode)
+fn begin_pricing<G: Gate>(driver: &mut Driver<'_, G>, book: &Book, first: FirstNode)
     ensures search { driver.new.search ≡ driver.old.search }
 {
     let case = book.case();
@@ -175,7 +175,7 @@ fn priced_by_all<R: Threads + Wait + Sync, G: Gate + Sync>(
 #[tactic(auto, using(crate::proofs::ReadyLemmas::ready_driven, crate::proofs::DrivenLemmas::own_still))]
 fn priced<R: Threads + Wait + Sync, G: Gate + Sync>(
     lent: &Lent<'_, R, G>,
-    driver: &mut Driver<'_>,
+    driver: &mut Driver<'_, G>,
     mut book: Box<Book>,
     cost: u64,
 ) -> Result<Box<Book>, NoMemory>
@@ -203,7 +203,7 @@ fn priced<R: Threads + Wait + Sync, G: Gate + Sync>(
 #[tactic(auto, using(crate::proofs::ReadyLemmas::ready_driven, crate::proofs::ReadyLemmas::ready_again, crate::proofs::DrivenLemmas::own_still))]
 fn begun<R: Threads + Wait + Sync, G: Gate + Sync>(
     lent: &Lent<'_, R, G>,
-    driver: &mut Driver<'_>,
+    driver: &mut Driver<'_, G>,
     mut book: Box<Book>,
     cost: u64,
 ) -> Result<Box<Book>, NoMemory>
@@ -222,7 +222,7 @@ fn begun<R: Threads + Wait + Sync, G: Gate + Sync>(
 // Shows of the slots that are left what the root reaches by its prices, where it was priced.
 #[inline(never)]
 #[tactic(auto, using(crate::proofs::ShowingLemmas::shown_none))]
-fn show_root(driver: &Driver<'_>, book: &mut Book, case: &Case)
+fn show_root<G: Gate>(driver: &Driver<'_, G>, book: &mut Book, case: &Case)
     requires { book.old.case ≡ case.now }
     ensures { IsOnlyShown book.old book.new }
 {
@@ -247,7 +247,8 @@ pub(crate) fn driven<R: Threads + Wait + Sync, G: Gate + Sync>(
     ensures well { IfOk result (λ end. EndsWell cost end.value) }
 {
     let case = lent.case;
-    let mut driver = Driver::new(lent.alloc, Search::new(&case.instance, case.turns));
+    let search = Search::new(&case.instance, case.turns);
+    let mut driver = Driver::new(lent.alloc, lent.gate, search);
     let mut book = begun(lent, &mut driver, book, cost)?;
     finish(&mut driver, &mut *book)?;
     show_root(&driver, &mut *book, case);

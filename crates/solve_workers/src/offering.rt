@@ -6,9 +6,11 @@ ghost use Rattle.solve_workers.specs.Driving.{IsDriven};
 ghost use Rattle.solve_workers.specs.Offering.{HasDriven, HasFreed};
 ghost use Rattle.std.specs.Prelude.{⊤};
 
+use crate::held::DRIVER;
 use crate::told::is_closed;
 use book_core::{Book, Reply};
 use deck_cuts::Cut;
+use gates::{Gate, Point};
 use lock_model::{Instance, Plan};
 use no_memory::NoMemory;
 use node_work::Search;
@@ -55,13 +57,24 @@ pub(crate) fn post_free(book: &mut Book, cut: Cut)
 
 /// What the driver has beside the book in its hand.
 #[derive(Drop)]
-pub(crate) struct DriversDesk<'s> {
+pub(crate) struct DriversDesk<'s, G: Gate> {
     pub(crate) alloc: Global,
+    pub(crate) gate: &'s G,
     pub(crate) search: &'s Search<'s>,
 }
 
+impl<G: Gate> DriversDesk<'_, G> {
+    // Tells the gate the best cost, and at the root what it reaches by prices.
+    fn tell(&self, book: &Book, pricing: &Pricing, held: &InHand<'_>) {
+        self.gate.at(DRIVER, Point::Read(book.best_cost()));
+        if held.node.depth() == 0 {
+            self.gate.at(DRIVER, Point::Low(pricing.reached()));
+        }
+    }
+}
+
 // It refuses want of memory alone. A cut, a plan or prices that the book doesn't take are let go.
-impl Desk for DriversDesk<'_> {
+impl<G: Gate> Desk for DriversDesk<'_, G> {
     type Hand = Book;
 
     type Stop = NoMemory;
@@ -90,8 +103,9 @@ impl Desk for DriversDesk<'_> {
         &self,
         book: &mut Book,
         pricing: &mut Pricing,
-        _held: &InHand<'_>,
+        held: &InHand<'_>,
     ) -> Result<(), NoMemory> {
+        self.tell(book, pricing, held);
         learn_cuts(book, pricing.cuts_mut())
     }
 

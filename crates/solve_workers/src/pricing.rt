@@ -11,6 +11,7 @@ ghost use Rattle.solve_workers.specs.Holding.{HoldsOnly};
 use crate::driver::Driver;
 use crate::offering::DriversDesk;
 use book_core::Book;
+use gates::Gate;
 use no_memory::NoMemory;
 use placed_groups::Memory;
 use price_search::{InHand, Pricing, price};
@@ -26,8 +27,8 @@ fn was_closed(ended: Result<bool, NoMemory>) -> bool
 }
 
 // Asks prices that serve about the held node.
-fn ask(
-    desk: &DriversDesk<'_>,
+fn ask<G: Gate>(
+    desk: &DriversDesk<'_, G>,
     book: &mut Book,
     memory: &mut Memory,
     pricing: &mut Pricing,
@@ -45,7 +46,11 @@ fn ask(
 /// Asks prices about the held node, where there are any that serve, and carries out what they find;
 /// whether the node was closed. Where memory is refused the node stays open.
 #[tactic(auto, using(crate::proofs::DrivenLemmas::driven_none))]
-pub(crate) fn price_held(driver: &mut Driver<'_>, book: &mut Book, held: &InHand<'_>) -> bool
+pub(crate) fn price_held<G: Gate>(
+    driver: &mut Driver<'_, G>,
+    book: &mut Book,
+    held: &InHand<'_>,
+) -> bool
     requires holds { HoldsOnly book.old held.now.id held.now.node.now }
     requires own { IsOwnSearch book.old driver.old.search }
     ensures closed { OnTrue result (HoldsNothing book.new) }
@@ -63,6 +68,7 @@ pub(crate) fn price_held(driver: &mut Driver<'_>, book: &mut Book, held: &InHand
     }
     let desk = DriversDesk {
         alloc: driver.alloc,
+        gate: driver.gate,
         search: &driver.search,
     };
     ask(&desk, book, &mut driver.memory, pricing, held)

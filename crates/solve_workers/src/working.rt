@@ -14,13 +14,14 @@ use crate::ending::{close, end, split};
 use crate::held::{held_bound, held_node};
 use crate::pricing::price_held;
 use book_core::{Book, Probed};
+use gates::Gate;
 use no_memory::NoMemory;
 use node_work::{Fate, closed_early, inner_fate, whole_fate};
 use price_search::InHand;
 
 // Works on the held node, which holds all ships.
 #[inline(never)]
-fn work_whole(driver: &mut Driver<'_>, book: &mut Book, id: u32) -> Result<(), NoMemory>
+fn work_whole<G: Gate>(driver: &mut Driver<'_, G>, book: &mut Book, id: u32) -> Result<(), NoMemory>
     requires holds { HoldsSlot book.old id }
     requires own { IsOwnSearch book.old driver.old.search }
     requires whole { (slot_at book.old id).node.depth ≡ length book.old.case.instance.ships }
@@ -37,7 +38,7 @@ fn work_whole(driver: &mut Driver<'_>, book: &mut Book, id: u32) -> Result<(), N
 
 // Whether prices, if there are any, close the held node. Only they need a copy of it.
 #[tactic(auto, using(crate::proofs::DrivenLemmas::driven_none))]
-fn is_priced(driver: &mut Driver<'_>, book: &mut Book, id: u32) -> bool
+fn is_priced<G: Gate>(driver: &mut Driver<'_, G>, book: &mut Book, id: u32) -> bool
     requires holds { HoldsSlot book.old id }
     requires own { IsOwnSearch book.old driver.old.search }
     ensures closed { OnTrue result (HoldsNothing book.new) }
@@ -56,7 +57,11 @@ fn is_priced(driver: &mut Driver<'_>, book: &mut Book, id: u32) -> bool
 
 // Splits the held node, which lacks a ship, unless prices close it.
 #[tactic(auto, using(crate::proofs::DrivenLemmas::driven_then))]
-fn split_unless_priced(driver: &mut Driver<'_>, book: &mut Book, id: u32) -> Result<(), NoMemory>
+fn split_unless_priced<G: Gate>(
+    driver: &mut Driver<'_, G>,
+    book: &mut Book,
+    id: u32,
+) -> Result<(), NoMemory>
     requires holds { HoldsSlot book.old id }
     requires own { IsOwnSearch book.old driver.old.search }
     requires lacks { (slot_at book.old id).node.depth < length book.old.case.instance.ships }
@@ -73,8 +78,8 @@ fn split_unless_priced(driver: &mut Driver<'_>, book: &mut Book, id: u32) -> Res
 // What becomes of the held node, which lacks ships, by the probe of the next one. The node is looked
 // at in the book.
 #[inline(never)]
-fn fate_of(
-    driver: &mut Driver<'_>,
+fn fate_of<G: Gate>(
+    driver: &mut Driver<'_, G>,
     book: &Book,
     id: u32,
     best: u64,
@@ -102,7 +107,12 @@ fn fate_of(
 
 // Works on the held node, which lacks ships. The bounds of its children are worked out once, in the
 // book's hand.
-fn work_inner(driver: &mut Driver<'_>, book: &mut Book, id: u32, best: u64) -> Result<(), NoMemory>
+fn work_inner<G: Gate>(
+    driver: &mut Driver<'_, G>,
+    book: &mut Book,
+    id: u32,
+    best: u64,
+) -> Result<(), NoMemory>
     requires holds { HoldsSlot book.old id }
     requires own { IsOwnSearch book.old driver.old.search }
     requires lacks { (slot_at book.old id).node.depth < length book.old.case.instance.ships }
@@ -119,9 +129,14 @@ fn work_inner(driver: &mut Driver<'_>, book: &mut Book, id: u32, best: u64) -> R
     end(book, id, fate)
 }
 
-/// Works on the held node until it is closed, split or parked. Refuses want of memory alone.
+/// Works on the held node until it is closed, split or parked. The gate is told of it first. Refuses want of
+/// memory alone.
 #[tactic(auto, using(crate::proofs::HeldLemmas::early_closable, crate::proofs::HeldLemmas::held_bound, crate::proofs::DrivenLemmas::driven_then))]
-pub(crate) fn work(driver: &mut Driver<'_>, book: &mut Book, id: u32) -> Result<(), NoMemory>
+pub(crate) fn work<G: Gate>(
+    driver: &mut Driver<'_, G>,
+    book: &mut Book,
+    id: u32,
+) -> Result<(), NoMemory>
     requires holds { HoldsSlot book.old id }
     requires own { IsOwnSearch book.old driver.old.search }
     ensures freed { OnOk result (HoldsNothing book.new) }
@@ -129,6 +144,7 @@ pub(crate) fn work(driver: &mut Driver<'_>, book: &mut Book, id: u32) -> Result<
     ensures search { driver.new.search ≡ driver.old.search }
 {
     book.keeps();
+    driver.tell(book, id);
     let best = book.best_cost();
     if let Some(why) = closed_early(&driver.search, held_bound(book, id), best) {
         close(book, id, why);

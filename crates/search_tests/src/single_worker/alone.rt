@@ -15,9 +15,12 @@ fn a_worker_calls_the_gate_as_it_goes(rt: HostRuntime) -> Result<(), Fail> {
     let book = open(rt.alloc(), two_up(232)?, 100, 20000)?;
     searched(&rt, rt.alloc(), &gate, book)?;
     let mut points = gate.points().into_iter();
-    for depth in [0, 2] {
+    for (depth, below) in [(0, Some(1)), (2, None)] {
         assert!(rt; points.next() == Some(Point::Took(depth)));
         assert!(rt; points.next() == Some(Point::Read(120)));
+        if let Some(below) = below {
+            assert!(rt; points.next() == Some(Point::Ahead(below)));
+        }
         assert!(rt; points.next() == Some(Point::Closed));
     }
     assert!(rt; points.next().is_none());

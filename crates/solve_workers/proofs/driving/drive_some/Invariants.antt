@@ -7,7 +7,7 @@ use Rattle.solve_workers.specs.Holding.{IsRunning}
 use Rattle.solve_workers.proofs.driving.drive_some.Given as goal
 
 abbrev pub invariant-slots : goal.invariant-slots
-invariant-slots l = HoldsNothing l.book × IsRunning l.book × IsDriven l.initial.book l.book × IsOwnSearch l.book l.driver.search × (l.driver.search ≡ l.initial.driver.search)
+invariant-slots g l = HoldsNothing l.book × IsRunning l.book × IsDriven l.initial.book l.book × IsOwnSearch l.book l.driver.search × (l.driver.search ≡ l.initial.driver.search)
 
 abbrev pub decreases-slots : goal.decreases-slots
-decreases-slots l = room_of l.book
+decreases-slots g l = room_of l.book

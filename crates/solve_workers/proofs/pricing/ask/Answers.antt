@@ -5,7 +5,7 @@ use Rattle.solve_workers.proofs.DeskLemmas.{ends_free, ends_still, ends_driven}
 use Rattle.solve_workers.proofs.pricing.ask.Goals as goal
 
 pub returns-clause-closed : goal.returns-clause-closed
-returns-clause-closed c =
+returns-clause-closed g c =
     let b = c.args.book.now in
     let new = c.price.new.hand in
     let held = c.args.held.now in
@@ -13,7 +13,7 @@ returns-clause-closed c =
     ends_free b new held c.requires.holds c.was_closed.result ends
 
 pub returns-clause-held : goal.returns-clause-held
-returns-clause-held c =
+returns-clause-held g c =
     let b = c.args.book.now in
     let new = c.price.new.hand in
     let held = c.args.held.now in
@@ -21,7 +21,7 @@ returns-clause-held c =
     ends_still b new held c.requires.holds c.was_closed.result ends
 
 pub returns-clause-driven : goal.returns-clause-driven
-returns-clause-driven c =
+returns-clause-driven g c =
     let b = c.args.book.now in
     let new = c.price.new.hand in
     let held = c.args.held.now in

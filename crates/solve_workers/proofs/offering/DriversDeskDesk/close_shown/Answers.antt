@@ -8,7 +8,7 @@ use Rattle.solve_workers.proofs.PriceLemmas.{price_shut, price_kept}
 use Rattle.solve_workers.proofs.offering.DriversDeskDesk.close_shown.Goals as goal
 
 pub returns-clause-ends : goal.returns-clause-ends
-returns-clause-ends c =
+returns-clause-ends g c =
     let b = c.args.book.now in
     let new = c.close_price.new.self in
     let id = c.args.held.now.id in

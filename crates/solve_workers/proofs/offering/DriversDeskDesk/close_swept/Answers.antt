@@ -8,7 +8,7 @@ use Rattle.solve_workers.proofs.PriceLemmas.{swept_shut, swept_kept}
 use Rattle.solve_workers.proofs.offering.DriversDeskDesk.close_swept.Goals as goal
 
 pub returns-clause-ends : goal.returns-clause-ends
-returns-clause-ends c =
+returns-clause-ends g c =
     let b = c.args.book.now in
     let new = c.close_swept.new.self in
     let id = c.args.held.now.id in

@@ -5,7 +5,7 @@ use Rattle.solve_workers.proofs.GrowLemmas.{replaced_holds}
 use Rattle.solve_workers.proofs.offering.DriversDeskDesk.give.Goals as goal
 
 pub returns-clause-holds : goal.returns-clause-holds
-returns-clause-holds c =
+returns-clause-holds g c =
     let b = c.args.book.now in
     let new = c.replace.new.self in
     let id = c.args._held.now.id in

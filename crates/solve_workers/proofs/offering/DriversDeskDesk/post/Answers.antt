@@ -5,7 +5,7 @@ use Rattle.solve_workers.proofs.PriceLemmas.{posted_slots, still_holds}
 use Rattle.solve_workers.proofs.offering.DriversDeskDesk.post.Goals as goal
 
 pub returns-clause-holds : goal.returns-clause-holds
-returns-clause-holds c =
+returns-clause-holds g c =
     let b = c.args.book.now in
     let new = c.post.new.self in
     let id = c.args._held.now.id in

@@ -1,0 +1,44 @@
+# How far a search is: shown where standard error is a terminal or --progress asks for it, and never else.
+
+# a program that tells numbers where it is asked for them, says something else too, and takes some seconds
+cat >"$room/slow" <<'PROGRAM'
+#!/usr/bin/env bash
+if [ -n "${GLOCK_PROGRESS-}" ]; then printf 'nodes 1 cost 500 low 0\nnodes 12 cost 400 low 391\n' >&2; fi
+echo "said beside" >&2
+sleep "${TAKES:-3}"
+echo "optimal cost 400"
+PROGRAM
+chmod +x "$room/slow"
+shown="steps 12, cost 400, low 391, gap 2.25 %"
+lacks() { [[ $1 != *"$2"* ]]; }
+
+slow_progress() {
+  GLOCK_PROGRESS=1 GLOCK_PROGRAM=$room/slow call $1
+  check "progress: $1" gives 0 "optimal cost 400" "$2"
+  check "progress: $1, what is said beside" holds "$err" "said beside"
+}
+rows slow_progress <<ROWS
+solve --progress evening.lock | glock: 0:02 min, $shown
+replan evening.lock evening.plan --from 150 --progress | min, $shown
+ROWS
+check "progress: what the program tells isn't shown as it is" lacks "$err" nodes
+GLOCK_PROGRESS=1 GLOCK_PROGRAM=$room/slow call solve evening.lock
+check "progress: nobody asks" [ "$status $out $err" = "0 optimal cost 400 said beside" ]
+
+# The program tells its numbers at once, and prints the same.
+plain() { "$GLOCK_PROGRAM" solve --workers 1 <"$room/two-chambers.lock" 2>"$room/err"; }
+wanted=$(plain)
+check "progress: a program that isn't asked" [ ! -s "$room/err" ]
+check "progress: the same answer" [ "$(GLOCK_PROGRESS=1 plain)" = "$wanted" ]
+check "progress: the program's numbers" grep -Eqx 'nodes [0-9]+ cost [0-9]+ low [0-9]+' "$room/err"
+check "progress: its numbers alone" [ "$(grep -Evcx 'nodes [0-9]+ cost [0-9]+ low [0-9]+' "$room/err")" = 0 ]
+
+# On a terminal the line is drawn over, and is gone at the end and after an interrupt.
+on_terminal() { typed=$(cd "$room" && GLOCK_PROGRAM=$room/slow script -qec "$1" /dev/null </dev/null | tr -d '\0\n'); }
+if script -qec true /dev/null >/dev/null 2>&1; then
+  on_terminal "$top/glock solve evening.lock >/dev/null"
+  check "progress: on a terminal" holds "$typed" $'\r\033[Kglock: 0:02 min, '"$shown"
+  check "progress: gone at the end" holds "$typed" $'%\r\033[Ksaid beside\r'
+  TAKES=30 on_terminal "timeout --foreground -s INT 4 $top/glock solve evening.lock"
+  check "progress: gone after an interrupt" holds "$typed" $'%\r\033[Ksaid beside\r'
+fi
