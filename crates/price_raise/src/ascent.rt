@@ -21,6 +21,7 @@ pub struct Pace {
     pub patience: u32,
     pub span: u32,
     pub spans: u32,
+    pub returning: u32,
 }
 
 /// Prices that are tried, the best ones so far with what they reach, how the next step is made, the groups
@@ -162,6 +163,31 @@ impl Ascent {
         self.best_sum
     }
 
+    // Goes back to the best prices, from where the next step is made then.
+    fn go_back(&mut self)
+        ensures tried { self.new.tried ≡ self.old.tried }
+        ensures best { self.new.best ≡ self.old.best }
+        ensures best_sum { self.new.best_sum ≡ self.old.best_sum }
+        ensures pace { self.new.pace ≡ self.old.pace }
+    {
+        self.exact = exact_of(&self.best);
+        self.triples.go_back(&self.best);
+    }
+
+    // Whether steps are made from the best prices by now.
+    fn is_returning(&self) -> bool {
+        self.pace.steps < self.pace.returning
+    }
+
+    // How many steps may bring no gain.
+    fn patience(&self) -> u32 {
+        if self.is_returning() {
+            self.pace.patience / 2
+        } else {
+            self.pace.patience
+        }
+    }
+
     // Keeps the prices that were tried where they are the best ones, and goes back to the best ones
     // after too many steps without gain.
     fn weigh(&mut self, sum: i64)
@@ -173,11 +199,10 @@ impl Ascent {
             self.best = self.tried.copy();
             self.best_sum = sum;
             self.idle = 0;
-        } else if self.idle < self.pace.patience {
+        } else if self.idle < self.patience() {
             self.idle += 1;
         } else {
-            self.exact = exact_of(&self.best);
-            self.triples.go_back(&self.best);
+            self.go_back();
             self.stride = self.stride / 3 * 2;
             self.idle = 0;
         }
@@ -242,6 +267,9 @@ impl Ascent {
         if norm <= 0 || !is_cut && self.is_over(goal) {
             return false;
         }
+        if self.is_returning() {
+            self.go_back();
+        }
         let reach = self
             .stride
             .saturating_mul(gap_to(goal, sum))
@@ -268,9 +296,8 @@ impl Ascent {
         ensures tried { self.new.tried ≡ self.old.tried }
         ensures pace { self.new.pace ≡ pace }
     {
-        self.exact = exact_of(&self.best);
+        self.go_back();
         self.direction = [0; SHIPS];
-        self.triples.go_back(&self.best);
         self.triples.free();
         self.stride = FURTHER_STRIDE;
         self.idle = 0;

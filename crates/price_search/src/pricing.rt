@@ -38,6 +38,7 @@ const FIRST_PACE: Pace = Pace {
     patience: 15,
     span: 20,
     spans: 10,
+    returning: 0,
 };
 
 const BRIEF_PACE: Pace = Pace {
@@ -46,6 +47,7 @@ const BRIEF_PACE: Pace = Pace {
     patience: 8,
     span: 10,
     spans: 5,
+    returning: 0,
 };
 
 // Most of the last direction is kept: where a line serves the cheapest ship again and again, prices come
@@ -56,16 +58,19 @@ const STEADY_PACE: Pace = Pace {
     patience: 30,
     span: 80,
     spans: 10,
+    returning: 0,
 };
 
 // Labels of a sweep of many ships grow by a factor with each few minutes that the bound lacks, so steps are
-// made until hardly anything is gained. They shrink sooner, since a table takes long.
+// made until hardly anything is gained. A table takes long, and steps from the best prices come as far in half
+// the time; but they begin later, since where prices reach the best cost the others find it sooner.
 const LASTING_PACE: Pace = Pace {
     steps: 800,
     kept: 9,
     patience: 15,
     span: 80,
     spans: 200,
+    returning: 720,
 };
 
 // A further ascent begins near the best prices, and triples turn slowly.
@@ -75,6 +80,7 @@ const MORE_PACE: Pace = Pace {
     patience: 15,
     span: 80,
     spans: 40,
+    returning: 0,
 };
 
 const PACE: Pace = Pace {
@@ -83,6 +89,7 @@ const PACE: Pace = Pace {
     patience: 5,
     span: 5,
     spans: 3,
+    returning: 0,
 };
 
 /// How soon a search leaves its first node, which one thread prices.
@@ -106,6 +113,15 @@ impl FirstNode {
             FirstNode::Brief => BRIEF_PACE,
             FirstNode::Steady => STEADY_PACE,
             FirstNode::Lasting => LASTING_PACE,
+        }
+    }
+
+    // Whether a plan is made of the least lines in every round of the first node. Of many ships it takes little
+    // beside their tables.
+    fn plans_each_round(self) -> bool {
+        match self {
+            FirstNode::Lasting => true,
+            FirstNode::Long | FirstNode::Brief | FirstNode::Steady => false,
         }
     }
 
@@ -260,10 +276,10 @@ impl Pricing {
         append(&mut self.path, Offer::new(prices))
     }
 
-    /// Whether a plan is to be made of the least lines: at the first node in every second round, at any
-    /// other in each one.
+    /// Whether a plan is to be made of the least lines: at the first node of a few ships in every second
+    /// round, at any other in each one.
     pub(crate) fn is_near_time(&self) -> bool {
-        !self.is_first || self.left % 2 == 0
+        !self.is_first || self.first.plans_each_round() || self.left % 2 == 0
     }
 
     /// Whether further ascents may be made at the root.

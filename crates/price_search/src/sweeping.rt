@@ -13,6 +13,8 @@ use sweep::{SweepEnd, SweepOutcome, UncutPlan};
 const MOST_SWEEPS: u32 = 200;
 // A sweep that made fewer labels cost next to nothing.
 const FEW_LABELS: u64 = 4_000;
+// After one that made more, a goal that is farther by an eighth may take more than there may be.
+const MANY_LABELS: u64 = 100_000;
 
 // Costs, in minutes, that are swept one after the other, each with so many labels at the most. What a sweep
 // takes hangs on how far its goal is above what prices reach, so goals rise from there.
@@ -30,9 +32,14 @@ impl Goals {
     }
 
     // After a sweep that made so many labels, the next goal is half as far again, or an eighth where they
-    // weren't few. Labels grow so fast with the distance that the last sweep takes most.
+    // weren't few, or half of that where they were many. Labels grow so fast with the distance that the last
+    // sweep takes most.
     fn rise(&mut self, labels: u64) {
-        let parts = if labels < FEW_LABELS { 2 } else { 8 };
+        let parts = match labels {
+            0..FEW_LABELS => 2,
+            FEW_LABELS..MANY_LABELS => 8,
+            _ => 16,
+        };
         let farther = self.distance / parts + 1;
         self.distance = self.distance.saturating_add(farther);
     }

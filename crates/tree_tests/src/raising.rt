@@ -25,6 +25,7 @@ fn ascent_from(start: [u32; 2]) -> Result<Ascent, Fail> {
         patience: 15,
         span: 10,
         spans: 1,
+        returning: 0,
     };
     Ok(Ascent::new(prices, pace))
 }
@@ -68,6 +69,7 @@ fn it_goes_back_to_the_best_prices_and_ends_where_the_goal_is_out_of_sight(
         patience: 0,
         span: 2,
         spans: 3,
+        returning: 0,
     };
     let mut ascent = Ascent::new(prices, pace);
     assert!(rt; ascent.raise(&[0, 1], &standing(0, 0), 0, 70, false));
@@ -83,6 +85,31 @@ fn it_goes_back_to_the_best_prices_and_ends_where_the_goal_is_out_of_sight(
     assert!(rt; ascent.raise(&[0, 1], &standing(0, 0), 3500, 70, true));
     // two more gained 1100, and three times as much is less than 3500
     assert!(rt; !ascent.raise(&[0, 1], &standing(0, 0), 3500, 70, false));
+    Ok(())
+}
+
+#[test]
+fn its_last_steps_begin_at_the_best_prices(rt: HostRuntime) -> Result<(), Fail> {
+    for (returning, tried) in [(0, [10_430, 3500]), (2, [10_500, 3500])] {
+        let prices = Prices::new(&[0, 0]).ok_or("no prices")?;
+        let pace = Pace {
+            steps: 3,
+            kept: 0,
+            patience: 15,
+            span: 10,
+            spans: 1,
+            returning,
+        };
+        let mut ascent = Ascent::new(prices, pace);
+        assert!(rt; ascent.raise(&[0, 1], &standing(0, 0), 0, 70, false));
+        assert!(rt; ascent.tried().as_slice() == [3500, 3500].as_slice());
+        // these are the best ones, and the first ship bears a gap of 70
+        assert!(rt; ascent.raise(&[0, 1], &standing(2, 1), 6930, 70, false));
+        assert!(rt; ascent.tried().as_slice() == [3430, 3500].as_slice());
+        // a gap of 7000, from the prices that were tried or from the best ones
+        assert!(rt; ascent.raise(&[0, 1], &standing(0, 1), 0, 70, false));
+        assert!(rt; ascent.tried().as_slice() == tried.as_slice());
+    }
     Ok(())
 }
 
@@ -114,6 +141,7 @@ fn a_triple_that_several_groups_have_gets_dearer(rt: HostRuntime) -> Result<(), 
         patience: 15,
         span: 10,
         spans: 1,
+        returning: 0,
     };
     let mut ascent = Ascent::new(prices, pace);
     assert!(rt; !ascent.widen(pace));
