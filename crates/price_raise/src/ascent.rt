@@ -21,7 +21,7 @@ pub struct Pace {
     pub patience: u32,
     pub span: u32,
     pub spans: u32,
-    pub returning: u32,
+    pub from_best: u32,
 }
 
 /// Prices that are tried, the best ones so far with what they reach, how the next step is made, the groups
@@ -175,13 +175,13 @@ impl Ascent {
     }
 
     // Whether steps are made from the best prices by now.
-    fn is_returning(&self) -> bool {
-        self.pace.steps < self.pace.returning
+    fn begins_at_best(&self) -> bool {
+        self.pace.steps < self.pace.from_best
     }
 
     // How many steps may bring no gain.
     fn patience(&self) -> u32 {
-        if self.is_returning() {
+        if self.begins_at_best() {
             self.pace.patience / 2
         } else {
             self.pace.patience
@@ -267,7 +267,7 @@ impl Ascent {
         if norm <= 0 || !is_cut && self.is_over(goal) {
             return false;
         }
-        if self.is_returning() {
+        if self.begins_at_best() {
             self.go_back();
         }
         let reach = self

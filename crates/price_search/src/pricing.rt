@@ -38,7 +38,7 @@ const FIRST_PACE: Pace = Pace {
     patience: 15,
     span: 20,
     spans: 10,
-    returning: 0,
+    from_best: 0,
 };
 
 const BRIEF_PACE: Pace = Pace {
@@ -47,7 +47,7 @@ const BRIEF_PACE: Pace = Pace {
     patience: 8,
     span: 10,
     spans: 5,
-    returning: 0,
+    from_best: 0,
 };
 
 // Most of the last direction is kept: where a line serves the cheapest ship again and again, prices come
@@ -58,7 +58,7 @@ const STEADY_PACE: Pace = Pace {
     patience: 30,
     span: 80,
     spans: 10,
-    returning: 0,
+    from_best: 0,
 };
 
 // Labels of a sweep of many ships grow by a factor with each few minutes that the bound lacks, so steps are
@@ -70,7 +70,7 @@ const LASTING_PACE: Pace = Pace {
     patience: 15,
     span: 80,
     spans: 200,
-    returning: 720,
+    from_best: 720,
 };
 
 // A further ascent begins near the best prices, and triples turn slowly.
@@ -80,7 +80,7 @@ const MORE_PACE: Pace = Pace {
     patience: 15,
     span: 80,
     spans: 40,
-    returning: 0,
+    from_best: 0,
 };
 
 const PACE: Pace = Pace {
@@ -89,7 +89,7 @@ const PACE: Pace = Pace {
     patience: 5,
     span: 5,
     spans: 3,
-    returning: 0,
+    from_best: 0,
 };
 
 /// How soon a search leaves its first node, which one thread prices.

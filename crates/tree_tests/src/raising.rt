@@ -25,7 +25,7 @@ fn ascent_from(start: [u32; 2]) -> Result<Ascent, Fail> {
         patience: 15,
         span: 10,
         spans: 1,
-        returning: 0,
+        from_best: 0,
     };
     Ok(Ascent::new(prices, pace))
 }
@@ -69,7 +69,7 @@ fn it_goes_back_to_the_best_prices_and_ends_where_the_goal_is_out_of_sight(
         patience: 0,
         span: 2,
         spans: 3,
-        returning: 0,
+        from_best: 0,
     };
     let mut ascent = Ascent::new(prices, pace);
     assert!(rt; ascent.raise(&[0, 1], &standing(0, 0), 0, 70, false));
@@ -90,7 +90,7 @@ fn it_goes_back_to_the_best_prices_and_ends_where_the_goal_is_out_of_sight(
 
 #[test]
 fn its_last_steps_begin_at_the_best_prices(rt: HostRuntime) -> Result<(), Fail> {
-    for (returning, tried) in [(0, [10_430, 3500]), (2, [10_500, 3500])] {
+    for (from_best, tried) in [(0, [10_430, 3500]), (2, [10_500, 3500])] {
         let prices = Prices::new(&[0, 0]).ok_or("no prices")?;
         let pace = Pace {
             steps: 3,
@@ -98,7 +98,7 @@ fn its_last_steps_begin_at_the_best_prices(rt: HostRuntime) -> Result<(), Fail> 
             patience: 15,
             span: 10,
             spans: 1,
-            returning,
+            from_best,
         };
         let mut ascent = Ascent::new(prices, pace);
         assert!(rt; ascent.raise(&[0, 1], &standing(0, 0), 0, 70, false));
@@ -141,7 +141,7 @@ fn a_triple_that_several_groups_have_gets_dearer(rt: HostRuntime) -> Result<(), 
         patience: 15,
         span: 10,
         spans: 1,
-        returning: 0,
+        from_best: 0,
     };
     let mut ascent = Ascent::new(prices, pace);
     assert!(rt; !ascent.widen(pace));
