@@ -19,6 +19,7 @@ and for the runs right above, where one of the entries of a kind must hold:
   line TEXT               the output is this one line
   first TEXT              the first line of the output is this
   holds TEXT              one line of the output is this
+  part TEXT               the output has this text in a line
   accepted N              over the output, `check` answers `accepted cost N`
   same plan               with `--dossier` an accepted dossier comes, of the cost and the plan of the report
   trial                   the output is one line, the same at a second run, and begins as its status of 0 or 1 asks
@@ -27,7 +28,7 @@ and for the runs right above, where one of the entries of a kind must hold:
 
 import re
 
-ASKED = ("status", "whole", "line", "first", "holds", "accepted", "same", "trial", "unread")
+ASKED = ("status", "whole", "line", "first", "holds", "part", "accepted", "same", "trial", "unread")
 
 
 def unescaped(text):

@@ -63,6 +63,7 @@ CHECKS = {
     "line": lambda ran, line: ran.text == line + "\n",
     "first": lambda ran, line: ran.first == line,
     "holds": lambda ran, line: line in ran.text.split("\n"),
+    "part": lambda ran, text: text in ran.text,
     "accepted": lambda ran, cost: ran.is_accepted(cost),
     "same": lambda ran, _: ran.has_same_plan(),
     "trial": lambda ran, _: ran.is_trial(),

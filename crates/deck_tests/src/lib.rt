@@ -1,11 +1,11 @@
 //! Tests of the crates of decks and placers.
 //!
 //! The crate has no code but its tests, each over the public items of the crate that it names:
-//! `mooring_rules` (`moorings`), `deck_laws` (`laws`), `ship_shapes` (`shapes`), `berth_check` and
-//! `berth_place` (`berths`), `place_refute` (`cuts`), `chamber_place` (`cases`), `spot_place`
-//! (`spots`), `placed_groups` (`answers`).
+//! `deck_laws` (`laws`), `ship_shapes` (`shapes`), `berth_check` and `berth_place` (`berths`),
+//! `place_refute` (`cuts`), `chamber_place` (`cases`), `spot_place` (`spots`), `placed_groups`
+//! (`answers`).
 //! Breaks of placements, and refutations that hold or don't, stand with the rows of whole runs and
-//! those of the second checker too. Lengths are decimetres.
+//! those of the second checker. Lengths are decimetres.
 #![tactic(auto)]
 
 #[cfg(test)]
@@ -20,8 +20,6 @@ mod cuts;
 mod fixture;
 #[cfg(test)]
 mod laws;
-#[cfg(test)]
-mod moorings;
 #[cfg(test)]
 mod shapes;
 #[cfg(test)]

@@ -8,17 +8,20 @@ use std::sync::Wait;
 use std::test::Fail;
 use std::thread::Threads;
 
-// Sixteen ships before two chambers, whose groups often don't fit: also below the root prices find cuts. One
+// Twenty ships before two chambers, whose groups often don't fit: also below the root prices find cuts. One
 // more comes so late that the root isn't swept.
 const CROWD: &str =
-    "glock 1\nchamber c1 2000 240 10 20 5 6 30 15 low 0\nchamber c2 1360 160 10 20 5 4 20 10 high 0\nship s1 down 740 50 9 6\nship s2 up 520 82 3 5\nship s3 down 570 101 16 6\nship s4 up 430 106 11 7\nship s5 down 1050 94 17 4\nship s6 down 820 88 1 3\nship s7 down 720 76 8 6\nship s8 down 880 94 2 5\nship s9 down 980 73 15 6\nship s10 down 1080 108 17 5\nship s11 down 590 56 19 3\nship s12 up 490 58 7 7\nship s13 up 920 75 11 4\nship s14 up 880 89 2 5\nship s15 down 490 52 6 5\nship s16 down 760 63 13 4\nship s17 up 500 60 20000 4\nend\n";
+    "glock 1\nchamber c1 2000 240 10 20 5 6 30 15 low 0\nchamber c2 1360 160 10 20 5 4 20 10 high 0\nship s1 down 630 84 26 5\nship s2 up 710 73 10 5\nship s3 up 970 55 83 7\nship s4 down 690 74 39 3\nship s5 down 630 70 74 5\nship s6 up 820 56 69 7\nship s7 up 710 64 2 4\nship s8 down 490 67 70 3\nship s9 up 420 90 1 5\nship s10 down 1030 80 19 3\nship s11 down 490 82 85 4\nship s12 up 590 59 40 5\nship s13 up 1050 103 77 5\nship s14 up 660 59 69 8\nship s15 up 800 102 79 8\nship s16 up 620 69 55 7\nship s17 up 460 95 85 4\nship s18 down 480 93 57 6\nship s19 down 1090 78 68 6\nship s20 up 900 103 43 4\nship s21 up 500 60 20000 4\nend\n";
 
-// The same of other ships.
+// The same of eighteen other ships.
 const OTHERS: &str =
-    "glock 1\nchamber c1 2000 240 10 20 5 6 30 15 low 0\nchamber c2 1360 160 10 20 5 4 20 10 high 0\nship s1 up 760 67 15 7\nship s2 down 680 85 9 5\nship s3 down 550 61 0 8\nship s4 up 400 89 4 4\nship s5 up 1100 93 13 8\nship s6 up 430 51 8 3\nship s7 down 840 92 12 3\nship s8 up 1010 107 19 5\nship s9 down 450 106 19 8\nship s10 up 990 80 5 3\nship s11 down 880 82 6 3\nship s12 down 1040 69 19 8\nship s13 down 400 79 1 8\nship s14 down 520 102 4 7\nship s15 up 810 62 16 4\nship s16 up 980 71 16 5\nship s17 up 500 60 20000 4\nend\n";
+    "glock 1\nchamber c1 2000 240 10 20 5 6 30 15 low 0\nchamber c2 1360 160 10 20 5 4 20 10 high 0\nship s1 down 930 75 16 3\nship s2 up 440 86 16 3\nship s3 up 820 71 11 7\nship s4 up 870 87 2 6\nship s5 up 1090 78 10 7\nship s6 up 600 108 10 5\nship s7 up 580 107 18 4\nship s8 up 910 70 16 6\nship s9 down 830 104 8 7\nship s10 down 440 95 2 8\nship s11 up 730 98 12 7\nship s12 down 500 54 5 5\nship s13 down 500 58 9 7\nship s14 down 700 63 3 5\nship s15 down 460 97 16 5\nship s16 up 1090 54 17 5\nship s17 down 770 105 16 4\nship s18 up 960 102 11 8\nship s19 up 500 60 20000 4\nend\n";
 
 // For how many looks a gate holds a worker at the most.
-const LOOKS: u64 = 100_000_000;
+const LOOKS: u64 = 10_000_000;
+
+// Fewer nodes than either crowd takes, so that the held worker always has a node to go on with.
+const WORDS: [&str; 5] = ["solve", "--nodes", "1001", "--workers", "2"];
 
 // Whether a worker finds cuts by prices in a run of a crowd, and the one that is held until then makes
 // another round; then it knows as many. Which comes first, and how many cuts there are, hangs on the
@@ -27,12 +30,10 @@ fn learns<R: Threads + Wait + Sync + Abort>(
     rt: &R,
     alloc: Global,
     crowd: &str,
-    cost: &[u8],
 ) -> Result<bool, Fail> {
     let gate = CutGate::new(LOOKS);
-    let words = ["solve", "--workers", "2"];
-    let ran = run_past(rt, alloc, &words, crowd.as_bytes(), LARGE, &gate)?;
-    assert!(rt; ran.text.as_slice().starts_with(cost));
+    let ran = run_past(rt, alloc, &WORDS, crowd.as_bytes(), LARGE, &gate)?;
+    assert!(rt; ran.text.as_slice().starts_with(b"open nodes 1001 "));
     let Some(found) = gate.found() else {
         return Ok(false);
     };
@@ -46,10 +47,8 @@ fn learns<R: Threads + Wait + Sync + Abort>(
 // One of several runs has to tell it.
 #[test]
 fn a_worker_of_a_run_learns_the_cuts_of_another(rt: HostRuntime) -> Result<(), Fail> {
-    for _ in 0..5 {
-        if learns(&rt, rt.alloc(), CROWD, b"optimal cost 1183\n")?
-            || learns(&rt, rt.alloc(), OTHERS, b"optimal cost 1190\n")?
-        {
+    for _ in 0..2 {
+        if learns(&rt, rt.alloc(), CROWD)? || learns(&rt, rt.alloc(), OTHERS)? {
             return Ok(());
         }
     }
