@@ -61,8 +61,8 @@ fn spot(y: u32, rank: Rank) -> Spot {
     }
 }
 
-/// One ship up in a chamber from a minute.
-pub(crate) fn alone(chamber: u8, ship: u8, start: u32) -> Lockage {
+// One ship up in a chamber from a minute.
+fn alone(chamber: u8, ship: u8, start: u32) -> Lockage {
     let mut spots = Spots::new();
     spots.push(spot(0, Rank::Left));
     Lockage {
@@ -92,8 +92,8 @@ pub(crate) fn one_each() -> Plan {
     first_and(alone(1, 1, 0))
 }
 
-/// The first two ships from minute 0, side by side.
-pub(crate) fn together() -> Lockage {
+// Both ships from minute 0, side by side.
+fn together() -> Lockage {
     let mut spots = Spots::new();
     spots.push(spot(0, Rank::Left));
     spots.push(spot(126, Rank::Right));
@@ -106,7 +106,7 @@ pub(crate) fn together() -> Lockage {
     }
 }
 
-/// Both ships so.
+/// The plan of that lockage alone.
 pub(crate) fn both() -> Plan {
     let mut lockages = Lockages::new();
     lockages.push(together());

@@ -1,13 +1,14 @@
 //! Prices of triples, as books keep them.
 
-use crate::fixture::open;
-use crate::swept_roots::one_by_one;
+use crate::fixture::{SIDE, open};
 use book_certificate::open_certificate_of;
 use book_core::{Refusal, Reply};
 use kept_prices::KeptPrices;
+use lock_model::{Chambers, Instance, ShipList, Way};
 use price_rules::Triple;
 use price_terms::Prices;
 use std::test::Fail;
+use worked_locks::{chamber, ship};
 
 const NONE: &[Triple] = &[];
 
@@ -57,9 +58,20 @@ fn a_list_is_kept_whole(rt: HostRuntime) -> Result<(), Fail> {
     Ok(())
 }
 
+// Three equal ships up from minute 0, and a chamber.
+fn three_ships() -> Result<Instance, Fail> {
+    let mut chambers = Chambers::new();
+    chambers.push(chamber(b'c', SIDE));
+    let mut ships = ShipList::new();
+    ships.push(ship(b's', Way::Up, 0));
+    ships.push(ship(b't', Way::Up, 0));
+    ships.push(ship(b'u', Way::Up, 0));
+    Ok(Instance::new(chambers, ships).ok_or("no instance")?)
+}
+
 #[test]
 fn a_book_takes_triples_of_its_ships_alone(rt: HostRuntime) -> Result<(), Fail> {
-    let mut book = open(rt.alloc(), one_by_one()?, 3)?;
+    let mut book = open(rt.alloc(), three_ships()?, 3)?;
     let mut other = first_three(1000);
     other.third = 3;
     for (triples, reply) in [
