@@ -13,7 +13,6 @@ pub mod Passages
 pub mod KnownPassages
 pub mod Shared
 pub mod Ground
-pub mod Fragments
 pub mod Labels
 pub mod Lanes
 pub mod ShipRows

@@ -6,14 +6,15 @@ ghost use Rattle.picture_page.specs.Cards.{head_words, head_times, card_head, pa
 ghost use Rattle.picture_page.specs.Cards.{deck_picture, list_ship, list_row, list_rows, card, card_of, cards};
 
 use crate::berths::{put_berth, ship_of, spot_of};
-use crate::form::put_form;
-use crate::fragments::{Fragment, put_fragments};
+use crate::form::{put_between, put_form};
 use crate::outlines::put_hulls;
 use crate::passage::Passage;
 use crate::scales::{DeckScale, deck_scale};
+use crate::shapes::{put_arrow, put_cargo};
 use crate::ties::put_ties;
-use crate::times::Clock;
+use crate::times::{Clock, put_time};
 use crate::waters::{drawn, put_feet, put_waters};
+use crate::words::{put_measures, put_metres};
 use crate::writing::put_writing;
 use instance_text::way_word;
 use lock_model::{Chamber, Instance, Lockage, MOST, Plan, Ship};
@@ -25,20 +26,14 @@ use plain_text::put;
 fn put_head_words(out: &mut Vec<u8>, name: &[u8], passage: &Passage) -> Result<(), NoMemory>
     ensures { OnOk result (out.new.items ≡ out.old.items ++ head_words name.now passage.now) }
 {
-    put_fragments(
+    put_form(
         out,
-        &[
-            Fragment::Form(
-                b"<article class=\"card\"><h3><b>% ",
-                &[passage.number as u64],
-            ),
-            Fragment::Arrow(passage.way),
-            Fragment::Form(b"</b><span>", &[]),
-            Fragment::Text(way_word(passage.way)),
-            Fragment::Form(b" in <strong>", &[]),
-            Fragment::Text(name),
-        ],
-    )
+        b"<article class=\"card\"><h3><b>% ",
+        &[passage.number as u64],
+    )?;
+    put_arrow(out, passage.way)?;
+    put_between(out, b"</b><span>", way_word(passage.way), b" in <strong>")?;
+    put(out, name)
 }
 
 /// Appends its times.
@@ -46,16 +41,11 @@ fn put_head_words(out: &mut Vec<u8>, name: &[u8], passage: &Passage) -> Result<(
 fn put_head_times(out: &mut Vec<u8>, clock: Clock, passage: &Passage) -> Result<(), NoMemory>
     ensures { OnOk result (out.new.items ≡ out.old.items ++ head_times clock passage.now) }
 {
-    put_fragments(
-        out,
-        &[
-            Fragment::Form(b"</strong></span><span>", &[]),
-            Fragment::Time(clock, passage.start as u64),
-            Fragment::Form(b" &#8211; ", &[]),
-            Fragment::Time(clock, passage.end()),
-            Fragment::Form(b"</span></h3>\n", &[]),
-        ],
-    )
+    put_form(out, b"</strong></span><span>", &[])?;
+    put_time(out, clock, passage.start as u64)?;
+    put_form(out, b" &#8211; ", &[])?;
+    put_time(out, clock, passage.end())?;
+    put_form(out, b"</span></h3>\n", &[])
 }
 
 /// Appends the head of the card of a passage.
@@ -132,17 +122,13 @@ fn put_title(
     requires { All (λ s. s < length instance.now.ships) lockage.now.ships }
     ensures { OnOk result (out.new.items ≡ out.old.items ++ card_title instance.now lockage.now number width name.now) }
 {
-    put_fragments(
+    put_form(
         out,
-        &[
-            Fragment::Form(
-                b"<svg class=\"d\" viewBox=\"0 0 1968 %\" role=\"img\"><title>Lockage %, chamber ",
-                &[height_of(width), number as u64],
-            ),
-            Fragment::Text(name),
-            Fragment::Form(b" from above: ", &[]),
-        ],
+        b"<svg class=\"d\" viewBox=\"0 0 1968 %\" role=\"img\"><title>Lockage %, chamber ",
+        &[height_of(width), number as u64],
     )?;
+    put(out, name)?;
+    put_form(out, b" from above: ", &[])?;
     put_title_ships(out, instance, lockage)?;
     put_form(out, b"</title>", &[])
 }
@@ -175,19 +161,12 @@ fn put_list_ship(out: &mut Vec<u8>, ship: &Ship, place: u8) -> Result<(), NoMemo
     requires { place < MOST }
     ensures { OnOk result (out.new.items ≡ out.old.items ++ list_ship ship.now place) }
 {
-    put_fragments(
-        out,
-        &[
-            Fragment::Form(b"<tr><td>", &[]),
-            Fragment::Byte(b'A' + place),
-            Fragment::Form(b"</td><td>", &[]),
-            Fragment::Text(ship.name.as_slice()),
-            Fragment::Cargo(ship.cargo),
-            Fragment::Form(b"</td><td class=\"v\">", &[]),
-            Fragment::Measures(ship.length, ship.width),
-            Fragment::Form(b"</td>", &[]),
-        ],
-    )
+    put_between(out, b"<tr><td>", &[b'A' + place], b"</td><td>")?;
+    put(out, ship.name.as_slice())?;
+    put_cargo(out, ship.cargo)?;
+    put_form(out, b"</td><td class=\"v\">", &[])?;
+    put_measures(out, ship.length, ship.width)?;
+    put_form(out, b"</td>", &[])
 }
 
 /// Appends the row of the ship at a place of a lockage.
@@ -205,14 +184,9 @@ fn put_list_row(
     put_list_ship(out, ship_of(instance, lockage, place), place)?;
     put_form(out, b"<td>", &[])?;
     put_berth(out, instance, lockage, place)?;
-    put_fragments(
-        out,
-        &[
-            Fragment::Form(b"</td><td class=\"v\">", &[]),
-            Fragment::Metres(spot_of(lockage, place).x),
-            Fragment::Form(b" m<span class=\"fl\"> from low</span></td></tr>", &[]),
-        ],
-    )
+    put_form(out, b"</td><td class=\"v\">", &[])?;
+    put_metres(out, spot_of(lockage, place).x)?;
+    put_form(out, b" m<span class=\"fl\"> from low</span></td></tr>", &[])
 }
 
 /// Appends the rows of the ships of a lockage.

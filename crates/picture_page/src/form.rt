@@ -26,3 +26,17 @@ pub(crate) fn put_form(out: &mut Vec<u8>, form: &[u8], numbers: &[u64]) -> Resul
         }
     }
 }
+
+/// Appends a text between two others.
+pub(crate) fn put_between(
+    out: &mut Vec<u8>,
+    before: &[u8],
+    text: &[u8],
+    after: &[u8],
+) -> Result<(), NoMemory>
+    ensures { OnOk result (out.new.items ≡ out.old.items ++ (filled before.now [] ++ text.now ++ filled after.now [])) }
+{
+    put_form(out, before, &[])?;
+    put(out, text)?;
+    put_form(out, after, &[])
+}

@@ -5,7 +5,6 @@ ghost use Rattle.picture_page.specs.Ground.{span_text, closed_ground, ground, tu
 
 use crate::axis::Axis;
 use crate::form::put_form;
-use crate::fragments::{Fragment, put_fragments};
 use crate::passage::Passage;
 use crate::times::{Clock, put_time};
 use lock_model::{Closure, Closures};
@@ -28,16 +27,12 @@ pub(crate) fn put_span(out: &mut Vec<u8>, clock: Clock, from: u64, to: u64) -> R
 fn put_closed_ground(out: &mut Vec<u8>, axis: &Axis, opens: u64) -> Result<(), NoMemory>
     ensures { OnOk result (out.new.items ≡ out.old.items ++ closed_ground axis.now opens) }
 {
-    put_fragments(
+    put_form(out, b"<g><title>not open before ", &[])?;
+    put_time(out, axis.clock(), opens)?;
+    put_form(
         out,
-        &[
-            Fragment::Form(b"<g><title>not open before ", &[]),
-            Fragment::Time(axis.clock(), opens),
-            Fragment::Form(
-                b"</title><rect class=\"n\" x=\"20\" y=\"10\" width=\"%\" height=\"29\"/></g>",
-                &[(axis.x(opens) as u64).saturating_sub(20)],
-            ),
-        ],
+        b"</title><rect class=\"n\" x=\"20\" y=\"10\" width=\"%\" height=\"29\"/></g>",
+        &[(axis.x(opens) as u64).saturating_sub(20)],
     )
 }
 
@@ -69,18 +64,14 @@ fn put_turn_box(out: &mut Vec<u8>, axis: &Axis, minute: u32, long: u32) -> Resul
 {
     let from = minute as u64;
     let to = from + long as u64;
+    put_form(out, b"<g><title>empty turn", &[])?;
+    put_span(out, axis.clock(), from, to)?;
     let left = axis.x(from) as u64;
     let right = axis.x(to) as u64;
-    put_fragments(
+    put_form(
         out,
-        &[
-            Fragment::Form(b"<g><title>empty turn", &[]),
-            Fragment::Span(axis.clock(), from, to),
-            Fragment::Form(
-                turn_form(axis.has_begun(minute)),
-                &[left, right.saturating_sub(left)],
-            ),
-        ],
+        turn_form(axis.has_begun(minute)),
+        &[left, right.saturating_sub(left)],
     )
 }
 
@@ -120,18 +111,14 @@ pub(crate) fn put_turns(
 fn put_closure_box(out: &mut Vec<u8>, axis: &Axis, from: u64, to: u64) -> Result<(), NoMemory>
     ensures { OnOk result (out.new.items ≡ out.old.items ++ closure_box axis.now from to) }
 {
+    put_form(out, b"<g><title>closed", &[])?;
+    put_span(out, axis.clock(), from, to)?;
     let left = axis.x(from) as u64;
     let width = (axis.x(to) as u64).saturating_sub(left);
-    put_fragments(
+    put_form(
         out,
-        &[
-            Fragment::Form(b"<g><title>closed", &[]),
-            Fragment::Span(axis.clock(), from, to),
-            Fragment::Form(
-                b"</title><rect class=\"z\" x=\"%\" y=\"6\" width=\"%\" height=\"37\"/><rect class=\"zb\" x=\"%\" y=\"6\" width=\"%\" height=\"37\"/></g>",
-                &[left, width, left, width],
-            ),
-        ],
+        b"</title><rect class=\"z\" x=\"%\" y=\"6\" width=\"%\" height=\"37\"/><rect class=\"zb\" x=\"%\" y=\"6\" width=\"%\" height=\"37\"/></g>",
+        &[left, width, left, width],
     )
 }
 

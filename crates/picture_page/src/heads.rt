@@ -4,9 +4,8 @@ ghost use Rattle.picture_page.specs.Page.{known_word, low_words, bound_words, ve
 ghost use Rattle.picture_page.specs.Page.{least_of, greatest_of, span_word, event_span, heading, summary};
 
 use crate::form::put_form;
-use crate::fragments::{Fragment, put_fragments};
 use crate::style::{put_present_style, put_style};
-use crate::times::Clock;
+use crate::times::{Clock, put_time};
 use crate::words::put_count;
 use lock_model::Instance;
 use no_memory::NoMemory;
@@ -120,15 +119,10 @@ fn span_word(clock: Clock) -> &'static [u8]
 fn put_event_span(out: &mut Vec<u8>, clock: Clock, events: &[u64]) -> Result<(), NoMemory>
     ensures { OnOk result (out.new.items ≡ out.old.items ++ event_span clock events.now) }
 {
-    put_fragments(
-        out,
-        &[
-            Fragment::Text(span_word(clock)),
-            Fragment::Time(clock, least_of(events)),
-            Fragment::Text(b" to "),
-            Fragment::Time(clock, greatest_of(events)),
-        ],
-    )
+    put(out, span_word(clock))?;
+    put_time(out, clock, least_of(events))?;
+    put(out, b" to ")?;
+    put_time(out, clock, greatest_of(events))
 }
 
 /// Appends the heading.
@@ -153,16 +147,11 @@ pub(crate) fn put_summary(
     ensures { OnOk result (out.new.items ≡ out.old.items ++ summary clock instance.now lockages events.now) }
 {
     put_event_span(out, clock, events)?;
-    put_fragments(
-        out,
-        &[
-            Fragment::Form(b" &#183; ", &[]),
-            Fragment::Count(instance.ships.as_slice().len() as u64, b"ship"),
-            Fragment::Form(b" &#183; ", &[]),
-            Fragment::Count(lockages, b"lockage"),
-            Fragment::Form(b" &#183; ", &[]),
-            Fragment::Count(instance.chambers.as_slice().len() as u64, b"chamber"),
-            Fragment::Form(b"</p>\n", &[]),
-        ],
-    )
+    put_form(out, b" &#183; ", &[])?;
+    put_count(out, instance.ships.as_slice().len() as u64, b"ship")?;
+    put_form(out, b" &#183; ", &[])?;
+    put_count(out, lockages, b"lockage")?;
+    put_form(out, b" &#183; ", &[])?;
+    put_count(out, instance.chambers.as_slice().len() as u64, b"chamber")?;
+    put_form(out, b"</p>\n", &[])
 }

@@ -5,13 +5,13 @@ ghost use Rattle.picture_page.specs.Labels.{label_text, last_after, labels, has_
 
 use crate::axis::Axis;
 use crate::form::put_form;
-use crate::fragments::{Fragment, put_fragments};
 use crate::passage::Passage;
 use crate::shapes::put_arrow_at;
 use crate::stretch::{Stretch, stretch_of};
-use crate::times::time_width;
+use crate::times::{put_time, time_width};
 use lock_model::Way;
 use no_memory::NoMemory;
+use plain_text::put;
 
 /// How the label of a passage stands.
 #[derive(Clone, Copy)]
@@ -205,14 +205,9 @@ fn has_opens(axis: &Axis, opens: u64) -> bool
 fn put_opens_text(out: &mut Vec<u8>, axis: &Axis, opens: u64) -> Result<(), NoMemory>
     ensures { OnOk result (out.new.items ≡ out.old.items ++ opens_text axis.now opens) }
 {
-    put_fragments(
-        out,
-        &[
-            Fragment::Text(b"<text class=\"q\" x=\"25\" y=\"28\">opens "),
-            Fragment::Time(axis.clock(), opens),
-            Fragment::Text(b"</text>"),
-        ],
-    )
+    put(out, b"<text class=\"q\" x=\"25\" y=\"28\">opens ")?;
+    put_time(out, axis.clock(), opens)?;
+    put(out, b"</text>")
 }
 
 /// Appends when a chamber opens, where the grey ground has room for it.

@@ -8,34 +8,36 @@ ghost use Rattle.picture_page.specs.Lanes.{begun_word, box_title, begun_frame, l
 ghost use Rattle.picture_page.specs.Lanes.{lane_ground, lane_words, lane_end, lane, lane_at, lanes, chambers_table};
 
 use crate::axis::Axis;
-use crate::form::put_form;
-use crate::fragments::{Fragment, put_fragments};
+use crate::form::{put_between, put_form};
 use crate::ground::{put_closures, put_ground, put_opening, put_span};
 use crate::labels::{are_wide, put_labels, put_opens};
 use crate::passage::Passage;
 use crate::passages::line_of;
 use crate::present::put_present_line;
 use crate::shapes::{put_frame, put_passage_box};
-use crate::times::Clock;
+use crate::times::{Clock, put_time};
 use crate::water::put_water;
+use crate::words::{put_count, put_measures, put_plural};
 use instance_text::{stand_word, way_word};
 use lock_model::{Chamber, Closures, Instance};
 use no_memory::NoMemory;
-use plain_text::put;
+use plain_text::{put, put_number};
 use std::alloc::Global;
 
-/// The axis in the head of a table, with room for a flag above it where the page shows the minute that
-/// it is.
-pub(crate) fn axis_head(axis: &Axis) -> &'static [u8]
-    ensures { result.now ≡ axis_head axis.now.present }
+/// Appends the axis in the head of a table, with room for a flag above it where the page shows the
+/// minute that it is.
+pub(crate) fn put_axis(out: &mut Vec<u8>, axis: &Axis) -> Result<(), NoMemory>
+    ensures { OnOk result (out.new.items ≡ out.old.items ++ axis_head axis.now.present) }
 {
     match axis.present() {
-        None => {
-            b"<svg width=\"812\" height=\"22\" aria-hidden=\"true\"><use href=\"#x\"/><use href=\"#A\"/></svg>"
-        }
-        Some(_) => {
-            b"<svg width=\"812\" height=\"34\" aria-hidden=\"true\"><use href=\"#x\" y=\"12\"/><use href=\"#A\" y=\"12\"/><use href=\"#N\"/></svg>"
-        }
+        None => put(
+            out,
+            b"<svg width=\"812\" height=\"22\" aria-hidden=\"true\"><use href=\"#x\"/><use href=\"#A\"/></svg>",
+        ),
+        Some(_) => put(
+            out,
+            b"<svg width=\"812\" height=\"34\" aria-hidden=\"true\"><use href=\"#x\" y=\"12\"/><use href=\"#A\" y=\"12\"/><use href=\"#N\"/></svg>",
+        ),
     }
 }
 
@@ -56,16 +58,10 @@ fn put_closed(out: &mut Vec<u8>, clock: Clock, closures: &Closures) -> Result<()
 fn put_lane_name(out: &mut Vec<u8>, chamber: &Chamber) -> Result<(), NoMemory>
     ensures { OnOk result (out.new.items ≡ out.old.items ++ lane_name chamber.now) }
 {
-    put_fragments(
-        out,
-        &[
-            Fragment::Form(b"<tr><th scope=\"row\"><b>", &[]),
-            Fragment::Text(chamber.name.as_slice()),
-            Fragment::Form(b"</b><small>", &[]),
-            Fragment::Measures(chamber.length, chamber.width),
-            Fragment::Form(b"</small></th>", &[]),
-        ],
-    )
+    let name = chamber.name.as_slice();
+    put_between(out, b"<tr><th scope=\"row\"><b>", name, b"</b><small>")?;
+    put_measures(out, chamber.length, chamber.width)?;
+    put_form(out, b"</small></th>", &[])
 }
 
 /// Appends what the picture of a chamber with so many lockages shows, and the grid.
@@ -78,22 +74,20 @@ fn put_lane_title(
 ) -> Result<(), NoMemory>
     ensures { OnOk result (out.new.items ≡ out.old.items ++ lane_title clock count chamber.now) }
 {
-    put_fragments(
+    put_between(
         out,
-        &[
-            Fragment::Form(
-                b"<td><svg width=\"812\" height=\"44\" role=\"img\"><title>Chamber ",
-                &[],
-            ),
-            Fragment::Text(chamber.name.as_slice()),
-            Fragment::Form(b": opens ", &[]),
-            Fragment::Time(clock, chamber.opens as u64),
-            Fragment::Form(b", stands ", &[]),
-            Fragment::Text(stand_word(chamber.stands)),
-            Fragment::Form(b" at first, ", &[]),
-            Fragment::Count(count, b"lockage"),
-        ],
+        b"<td><svg width=\"812\" height=\"44\" role=\"img\"><title>Chamber ",
+        chamber.name.as_slice(),
+        b": opens ",
     )?;
+    put_time(out, clock, chamber.opens as u64)?;
+    put_between(
+        out,
+        b", stands ",
+        stand_word(chamber.stands),
+        b" at first, ",
+    )?;
+    put_count(out, count, b"lockage")?;
     put_closed(out, clock, &chamber.closures)?;
     put_form(out, b"</title><use href=\"#G\"/>", &[])
 }
@@ -140,11 +134,11 @@ pub(crate) fn box_width(from: u16, to: u16) -> u64
     (to as u64).saturating_sub(from as u64 + 2).max(1)
 }
 
-/// The words for a lockage that has begun, where it has.
-fn begun_word(begun: bool) -> &'static [u8]
-    ensures { result.now ≡ begun_word begun }
+/// Appends that a lockage has begun, where it has.
+fn put_begun_word(out: &mut Vec<u8>, begun: bool) -> Result<(), NoMemory>
+    ensures { OnOk result (out.new.items ≡ out.old.items ++ begun_word begun) }
 {
-    if begun { b", begun," } else { b"" }
+    if begun { put(out, b", begun,") } else { Ok(()) }
 }
 
 /// Appends what a lockage is, which has begun or not.
@@ -159,16 +153,11 @@ fn put_box_title(
     requires { HasShips instance.now passage.now }
     ensures { OnOk result (out.new.items ≡ out.old.items ++ box_title instance.now clock begun passage.now) }
 {
-    put_fragments(
-        out,
-        &[
-            Fragment::Form(b"<g><title>lockage % ", &[passage.number as u64]),
-            Fragment::Text(way_word(passage.way)),
-            Fragment::Text(begun_word(begun)),
-            Fragment::Span(clock, passage.start as u64, passage.end()),
-            Fragment::Form(b": ", &[]),
-        ],
-    )?;
+    put_form(out, b"<g><title>lockage % ", &[passage.number as u64])?;
+    put(out, way_word(passage.way))?;
+    put_begun_word(out, begun)?;
+    put_span(out, clock, passage.start as u64, passage.end())?;
+    put_form(out, b": ", &[])?;
     put_names(out, instance, passage.ships.as_slice())?;
     put_form(out, b"</title>", &[])
 }
@@ -251,14 +240,9 @@ fn put_lane_words(
 {
     put_labels(out, axis, wide, 0, line)?;
     put_opens(out, axis, chamber.opens as u64)?;
-    put_fragments(
-        out,
-        &[
-            Fragment::Form(b"</svg></td><td class=\"r\">", &[]),
-            Fragment::Number(line.len() as u64),
-            Fragment::Form(b"</td></tr>\n", &[]),
-        ],
-    )
+    put_form(out, b"</svg></td><td class=\"r\">", &[])?;
+    put_number(out, line.len() as u64)?;
+    put_form(out, b"</td></tr>\n", &[])
 }
 
 /// Appends the breaks of a lane, the line at the minute that it is, and what stands on them.
@@ -348,21 +332,18 @@ pub(crate) fn put_chambers(
     requires { All (HasShips instance.now) passages.now }
     ensures { OnOk result (out.new.items ≡ out.old.items ++ chambers_table instance.now axis.now passages.now) }
 {
-    put_fragments(
+    put_form(
         out,
-        &[
-            Fragment::Form(
-                b"<table class=\"t\" aria-label=\"chambers by time\">\n<thead><tr><th scope=\"col\">chamber",
-                &[],
-            ),
-            Fragment::Plural(instance.chambers.as_slice().len() as u64),
-            Fragment::Form(b"</th><td>", &[]),
-            Fragment::Text(axis_head(axis)),
-            Fragment::Form(
-                b"</td><th scope=\"col\" class=\"r\">lockages</th></tr></thead>\n<tbody class=\"c\">\n",
-                &[],
-            ),
-        ],
+        b"<table class=\"t\" aria-label=\"chambers by time\">\n<thead><tr><th scope=\"col\">chamber",
+        &[],
+    )?;
+    put_plural(out, instance.chambers.as_slice().len() as u64)?;
+    put_form(out, b"</th><td>", &[])?;
+    put_axis(out, axis)?;
+    put_form(
+        out,
+        b"</td><th scope=\"col\" class=\"r\">lockages</th></tr></thead>\n<tbody class=\"c\">\n",
+        &[],
     )?;
     put_lanes(alloc, out, instance, axis, passages)?;
     put_form(out, b"</tbody>\n</table>\n", &[])

@@ -6,9 +6,8 @@ ghost use Rattle.picture_page.specs.Legend.{ship_entry, break_item, break_entry,
 
 use crate::axis::Axis;
 use crate::form::put_form;
-use crate::fragments::{Fragment, put_fragments};
 use crate::shapes::{put_frame, put_passage_box};
-use crate::times::Clock;
+use crate::times::{Clock, put_time};
 use lock_model::{Chamber, Closure, Instance, Ship, Way};
 use no_memory::NoMemory;
 use plain_text::put;
@@ -71,14 +70,9 @@ fn put_begun_entry(out: &mut Vec<u8>, clock: Clock, minute: u64) -> Result<(), N
     put_entry(out, 34)?;
     put_passage_box(out, Way::Up, 1, 32, 2, 16)?;
     put_frame(out, 1, 32, 2, 16)?;
-    put_fragments(
-        out,
-        &[
-            Fragment::Text(b"</svg>begun before "),
-            Fragment::Time(clock, minute),
-            Fragment::Text(b"</li>\n"),
-        ],
-    )
+    put(out, b"</svg>begun before ")?;
+    put_time(out, clock, minute)?;
+    put(out, b"</li>\n")
 }
 
 /// Appends the entry of the minute that it is.
@@ -225,23 +219,25 @@ fn put_moored_entry(out: &mut Vec<u8>) -> Result<(), NoMemory>
     ensures { OnOk result (out.new.items ≡ out.old.items ++ moored_entry) }
 {
     put_entry(out, 36)?;
-    put_fragments(
+    put_form(
         out,
-        &[
-            Fragment::Form(
-                b"<rect class=\"qy\" x=\"0\" y=\"1\" width=\"22\" height=\"8\"/><path class=\"hu\" style=\"stroke-width:1\" d=\"M0 10H22V17H0Z\"/>",
-                &[],
-            ),
-            Fragment::Form(
-                b"<rect class=\"bo\" x=\"7\" y=\"3\" width=\"8\" height=\"3\"/><path class=\"p\" d=\"M11 5V11\"/>",
-                &[],
-            ),
-            Fragment::Form(
-                b"<path class=\"p\" d=\"M31 5V13\"/><circle class=\"bo\" cx=\"31\" cy=\"5\" r=\"2\"/><circle class=\"bo\" cx=\"31\" cy=\"13\" r=\"2\"/>",
-                &[],
-            ),
-            Fragment::Form(b"</svg>moored to the quay, to another ship</li>\n", &[]),
-        ],
+        b"<rect class=\"qy\" x=\"0\" y=\"1\" width=\"22\" height=\"8\"/><path class=\"hu\" style=\"stroke-width:1\" d=\"M0 10H22V17H0Z\"/>",
+        &[],
+    )?;
+    put_form(
+        out,
+        b"<rect class=\"bo\" x=\"7\" y=\"3\" width=\"8\" height=\"3\"/><path class=\"p\" d=\"M11 5V11\"/>",
+        &[],
+    )?;
+    put_form(
+        out,
+        b"<path class=\"p\" d=\"M31 5V13\"/><circle class=\"bo\" cx=\"31\" cy=\"5\" r=\"2\"/><circle class=\"bo\" cx=\"31\" cy=\"13\" r=\"2\"/>",
+        &[],
+    )?;
+    put_form(
+        out,
+        b"</svg>moored to the quay, to another ship</li>\n",
+        &[],
     )
 }
 
@@ -278,34 +274,6 @@ fn put_cargo_entry(out: &mut Vec<u8>, ships: &[Ship]) -> Result<(), NoMemory>
     }
 }
 
-/// Appends the entries of lockages, of empty turns and of the minute that it is.
-fn put_lockage_entries(out: &mut Vec<u8>, axis: &Axis) -> Result<(), NoMemory>
-    ensures { OnOk result (out.new.items ≡ out.old.items ++ (up_entry ++ down_entry ++ turn_entry ++ present_entries axis.now.clock axis.now.present)) }
-{
-    put_up_entry(out)?;
-    put_down_entry(out)?;
-    put_turn_entry(out)?;
-    put_present_entries(out, axis)
-}
-
-/// Appends the entries of closures and of chambers that aren't open yet, where the page shows them.
-fn put_chamber_entries(out: &mut Vec<u8>, axis: &Axis, chambers: &[Chamber]) -> Result<(), NoMemory>
-    ensures { OnOk result (out.new.items ≡ out.old.items ++ (closed_entry axis.now chambers.now ++ opens_entry axis.now chambers.now)) }
-{
-    put_closed_entry(out, axis, chambers)?;
-    put_opens_entry(out, axis, chambers)
-}
-
-/// Appends the entries of ships, of breaks, of ties and of cargo, where the page shows them.
-fn put_ship_entries(out: &mut Vec<u8>, breaks: &[u16], ships: &[Ship]) -> Result<(), NoMemory>
-    ensures { OnOk result (out.new.items ≡ out.old.items ++ (ship_entry ++ break_entry breaks.now ++ moored_entry ++ cargo_entry ships.now)) }
-{
-    put_ship_entry(out)?;
-    put_break_entry(out, breaks)?;
-    put_moored_entry(out)?;
-    put_cargo_entry(out, ships)
-}
-
 /// Appends the legend, with entries for what the page shows. The only refusal is want of memory.
 #[tactic(auto, unfolding(crate::specs::Legend::legend))]
 pub(crate) fn put_legend(
@@ -315,9 +283,17 @@ pub(crate) fn put_legend(
 ) -> Result<(), NoMemory>
     ensures { OnOk result (out.new.items ≡ out.old.items ++ legend instance.now axis.now) }
 {
+    let chambers = instance.chambers.as_slice();
     put_form(out, b"<ul class=\"legend\" aria-label=\"legend\">\n", &[])?;
-    put_lockage_entries(out, axis)?;
-    put_chamber_entries(out, axis, instance.chambers.as_slice())?;
-    put_ship_entries(out, axis.breaks(), instance.ships.as_slice())?;
+    put_up_entry(out)?;
+    put_down_entry(out)?;
+    put_turn_entry(out)?;
+    put_present_entries(out, axis)?;
+    put_closed_entry(out, axis, chambers)?;
+    put_opens_entry(out, axis, chambers)?;
+    put_ship_entry(out)?;
+    put_break_entry(out, axis.breaks())?;
+    put_moored_entry(out)?;
+    put_cargo_entry(out, instance.ships.as_slice())?;
     put_form(out, b"</ul>\n", &[])
 }

@@ -12,9 +12,8 @@
 //! minute that it is, where the page shows it, and what has begun before it), `Shared`,
 //! `Ground`, `Labels`, `Lanes`, `ShipRows` and `Legend` (the timetable), `Scales`, `Waters`, `Berths`,
 //! `Hulls`, `Ties`, `Writing` and `Cards` (the decks), `Page` (the page of them all). The style sheet is
-//! the constant `STYLE`. Only private functions rest on `Fragments` (what rows of a text are made of) and
-//! on `KnownPassages`: what passages name is in the instance and in the plan, which
-//! `proofs/PassageLemmas` proves.
+//! the constant `STYLE`. Only private functions rest on `KnownPassages`: what passages name is in the
+//! instance and in the plan, which `proofs/PassageLemmas` proves.
 #![tactic(auto)]
 
 mod axis;
@@ -23,7 +22,6 @@ mod breaks;
 mod cards;
 mod events;
 mod form;
-mod fragments;
 mod ground;
 mod heads;
 mod hulls;

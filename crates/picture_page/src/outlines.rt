@@ -3,10 +3,10 @@ ghost use Rattle.std.specs.Prelude.{◌≡◌, ◌<◌, ◌++◌, length, All, O
 ghost use Rattle.picture_page.specs.Hulls.{outline, hull_text, hulls};
 
 use crate::berths::{put_berth, ship_of};
-use crate::form::put_form;
-use crate::fragments::{Fragment, put_fragments};
+use crate::form::{put_between, put_form};
 use crate::hulls::{Hull, hull_of};
 use crate::scales::DeckScale;
+use crate::words::put_measures;
 use lock_model::{Instance, Lockage, Way};
 use no_memory::NoMemory;
 
@@ -52,16 +52,9 @@ fn put_hull(
     ensures { OnOk result (out.new.items ≡ out.old.items ++ hull_text scale.now instance.now lockage.now place) }
 {
     let ship = ship_of(instance, lockage, place);
-    put_fragments(
-        out,
-        &[
-            Fragment::Form(b"<g><title>", &[]),
-            Fragment::Text(ship.name.as_slice()),
-            Fragment::Form(b", ", &[]),
-            Fragment::Measures(ship.length, ship.width),
-            Fragment::Form(b", ", &[]),
-        ],
-    )?;
+    put_between(out, b"<g><title>", ship.name.as_slice(), b", ")?;
+    put_measures(out, ship.length, ship.width)?;
+    put_form(out, b", ", &[])?;
     put_berth(out, instance, lockage, place)?;
     put_form(out, b"</title>", &[])?;
     put_outline(out, lockage.way, &hull_of(scale, instance, lockage, place))

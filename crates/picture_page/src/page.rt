@@ -3,15 +3,12 @@ ghost use Rattle.std.specs.Prelude.{◌≡◌, ◌≤◌, ◌<◌, ◌++◌, len
 ghost use Rattle.lock_rules.specs.Plan.{IsLegal};
 ghost use Rattle.picture_page.specs.Passages.{IsKnownGo};
 ghost use Rattle.picture_page.specs.KnownPassages.{AreKnown, HasChamber, HasShips, IsKnown};
-ghost use Rattle.picture_page.specs.Page.{heading, page_head, timetable, decks, page_on, page_with, picture};
-ghost use Rattle.picture_page.specs.Shared.{shared};
-ghost use Rattle.picture_page.specs.Ticks.{ticks_of};
+ghost use Rattle.picture_page.specs.Page.{timetable, decks, page_on, page_with, picture};
 
 use crate::axis::Axis;
 use crate::cards::put_cards;
 use crate::events::events_of;
 use crate::form::put_form;
-use crate::fragments::{Fragment, put_fragments};
 use crate::heads::{Known, put_heading, put_page_head, put_summary};
 use crate::lanes::put_chambers;
 use crate::legend::put_legend;
@@ -21,6 +18,7 @@ use crate::shared::put_shared;
 use crate::ship_rows::put_ships;
 use crate::ticks::ticks_of;
 use crate::times::{Clock, Dial};
+use crate::words::put_plural;
 use chamber_times::cost;
 use day_play::{BEATS, Beat};
 use lock_model::{Instance, Plan};
@@ -64,33 +62,11 @@ fn put_decks(
     requires { All (IsKnown instance.now plan.now) passages.now }
     ensures { OnOk result (out.new.items ≡ out.old.items ++ decks instance.now plan.now clock passages.now) }
 {
-    put_fragments(
-        out,
-        &[
-            Fragment::Form(b"<h2>deck plan", &[]),
-            Fragment::Plural(passages.len() as u64),
-            Fragment::Form(b"</h2>\n<div class=\"cards\">\n", &[]),
-        ],
-    )?;
+    put_form(out, b"<h2>deck plan", &[])?;
+    put_plural(out, passages.len() as u64)?;
+    put_form(out, b"</h2>\n<div class=\"cards\">\n", &[])?;
     put_cards(out, instance, plan, clock, passages)?;
     put_form(out, b"</div>\n</main>\n</body>\n</html>\n", &[])
-}
-
-/// Appends the head of a page, the shapes that its rows share and its heading.
-fn put_top(
-    alloc: Global,
-    out: &mut Vec<u8>,
-    known: Known,
-    present: Option<u32>,
-    total: u64,
-    axis: &Axis,
-) -> Result<(), NoMemory>
-    ensures { OnOk result (out.new.items ≡ out.old.items ++ (page_head present known total ++ shared axis.now (ticks_of axis.now) ++ heading known total)) }
-{
-    let ticks = ticks_of(alloc, axis)?;
-    put_page_head(out, present, known, total)?;
-    put_shared(out, axis, ticks.as_slice())?;
-    put_heading(out, known, total)
 }
 
 /// The page of these passages of a plan.
@@ -110,8 +86,11 @@ fn page_with(
     let total = cost(instance, plan);
     let events = events_of(alloc, dial.present, instance, passages)?;
     let axis = Axis::new(alloc, dial, events.as_slice())?;
+    let ticks = ticks_of(alloc, &axis)?;
     let mut page = Vec::new(alloc);
-    put_top(alloc, &mut page, known, dial.present, total, &axis)?;
+    put_page_head(&mut page, dial.present, known, total)?;
+    put_shared(&mut page, &axis, ticks.as_slice())?;
+    put_heading(&mut page, known, total)?;
     put_summary(
         &mut page,
         dial.clock,

@@ -4,10 +4,10 @@ ghost use Rattle.picture_page.specs.Present.{present_x, present_line, half_flag,
 
 use crate::axis::Axis;
 use crate::form::put_form;
-use crate::fragments::{Fragment, put_fragments};
 use crate::ticks::PLOT;
-use crate::times::{Clock, time_width};
+use crate::times::{Clock, put_time, time_width};
 use no_memory::NoMemory;
+use plain_text::put;
 
 /// Appends the line at the minute that it is in a row so high, where the page shows it.
 pub(crate) fn put_present_line(out: &mut Vec<u8>, axis: &Axis, height: u64) -> Result<(), NoMemory>
@@ -42,17 +42,13 @@ fn flag_middle(half: u64, x: u16) -> u64
 fn put_flag(out: &mut Vec<u8>, clock: Clock, minute: u64, x: u16) -> Result<(), NoMemory>
     ensures { OnOk result (out.new.items ≡ out.old.items ++ flag clock minute x) }
 {
-    put_fragments(
+    put_form(
         out,
-        &[
-            Fragment::Form(
-                b"<g id=\"N\"><path class=\"y\" d=\"M% 11V16M% 29V34\"/><text class=\"n3\" x=\"%\" y=\"9\">now ",
-                &[x as u64, x as u64, flag_middle(half_flag(clock, minute), x)],
-            ),
-            Fragment::Time(clock, minute),
-            Fragment::Text(b"</text></g>\n"),
-        ],
-    )
+        b"<g id=\"N\"><path class=\"y\" d=\"M% 11V16M% 29V34\"/><text class=\"n3\" x=\"%\" y=\"9\">now ",
+        &[x as u64, x as u64, flag_middle(half_flag(clock, minute), x)],
+    )?;
+    put_time(out, clock, minute)?;
+    put(out, b"</text></g>\n")
 }
 
 /// Appends the flag at the minute that it is, where the page shows it.

@@ -5,10 +5,9 @@ ghost use Rattle.picture_page.specs.Shared.{signs, hatching, grid_line, grids, b
 
 use crate::axis::Axis;
 use crate::form::put_form;
-use crate::fragments::{Fragment, put_fragments};
 use crate::present::put_present_flag;
 use crate::ticks::Tick;
-use crate::times::Clock;
+use crate::times::{Clock, put_time};
 use no_memory::NoMemory;
 use plain_text::put;
 
@@ -17,22 +16,20 @@ use plain_text::put;
 fn put_signs(out: &mut Vec<u8>) -> Result<(), NoMemory>
     ensures { OnOk result (out.new.items ≡ out.old.items ++ signs) }
 {
-    put_fragments(
+    put_form(
         out,
-        &[
-            Fragment::Form(
-                b"<svg width=\"0\" height=\"0\" style=\"position:absolute\" aria-hidden=\"true\"><defs>\n",
-                &[],
-            ),
-            Fragment::Form(
-                b"<path id=\"u\" d=\"M4 0L9 5H6V11H3V5H0Z\"/><path id=\"d\" d=\"M4 11L9 6H6V0H3V6H0Z\"/>\n",
-                &[],
-            ),
-            Fragment::Form(
-                b"<path id=\"k\" class=\"kd\" d=\"M7 0L14 7L7 14L0 7Z\"/>\n",
-                &[],
-            ),
-        ],
+        b"<svg width=\"0\" height=\"0\" style=\"position:absolute\" aria-hidden=\"true\"><defs>\n",
+        &[],
+    )?;
+    put_form(
+        out,
+        b"<path id=\"u\" d=\"M4 0L9 5H6V11H3V5H0Z\"/><path id=\"d\" d=\"M4 11L9 6H6V0H3V6H0Z\"/>\n",
+        &[],
+    )?;
+    put_form(
+        out,
+        b"<path id=\"k\" class=\"kd\" d=\"M7 0L14 7L7 14L0 7Z\"/>\n",
+        &[],
     )
 }
 
@@ -41,18 +38,15 @@ fn put_signs(out: &mut Vec<u8>) -> Result<(), NoMemory>
 fn put_hatching(out: &mut Vec<u8>) -> Result<(), NoMemory>
     ensures { OnOk result (out.new.items ≡ out.old.items ++ hatching) }
 {
-    put_fragments(
+    put_form(
         out,
-        &[
-            Fragment::Form(
-                b"<pattern id=\"z\" width=\"6\" height=\"6\" patternUnits=\"userSpaceOnUse\" patternTransform=\"rotate(45)\">",
-                &[],
-            ),
-            Fragment::Form(
-                b"<path d=\"M0 0H6V6H0Z\" fill=\"#fff\"/><path d=\"M1 0V6\" stroke=\"#5b6a77\" stroke-width=\"2\"/></pattern>\n",
-                &[],
-            ),
-        ],
+        b"<pattern id=\"z\" width=\"6\" height=\"6\" patternUnits=\"userSpaceOnUse\" patternTransform=\"rotate(45)\">",
+        &[],
+    )?;
+    put_form(
+        out,
+        b"<path d=\"M0 0H6V6H0Z\" fill=\"#fff\"/><path d=\"M1 0V6\" stroke=\"#5b6a77\" stroke-width=\"2\"/></pattern>\n",
+        &[],
     )
 }
 
@@ -169,14 +163,9 @@ fn put_tick_label(
     match label {
         None => Ok(()),
         Some(middle) => {
-            put_fragments(
-                out,
-                &[
-                    Fragment::Form(b"<text x=\"%\" y=\"14\">", &[middle as u64]),
-                    Fragment::Time(clock, minute),
-                    Fragment::Text(b"</text>"),
-                ],
-            )
+            put_form(out, b"<text x=\"%\" y=\"14\">", &[middle as u64])?;
+            put_time(out, clock, minute)?;
+            put(out, b"</text>")
         }
     }
 }
@@ -204,22 +193,15 @@ fn put_tick_texts(out: &mut Vec<u8>, clock: Clock, ticks: &[Tick]) -> Result<(),
     Ok(())
 }
 
-/// Appends the shapes of all rows: signs, hatching, grids and breaks.
-fn put_row_shapes(out: &mut Vec<u8>, axis: &Axis, ticks: &[Tick]) -> Result<(), NoMemory>
-    ensures { OnOk result (out.new.items ≡ out.old.items ++ (signs ++ hatching ++ grids ticks.now ++ torn axis.now)) }
-{
-    put_signs(out)?;
-    put_hatching(out)?;
-    put_grids(out, ticks)?;
-    put_torn(out, axis)
-}
-
 /// Appends the shapes that the rows share, for an axis with these ticks.
 #[tactic(auto, unfolding(crate::specs::Shared::shared))]
 pub(crate) fn put_shared(out: &mut Vec<u8>, axis: &Axis, ticks: &[Tick]) -> Result<(), NoMemory>
     ensures { OnOk result (out.new.items ≡ out.old.items ++ shared axis.now ticks.now) }
 {
-    put_row_shapes(out, axis, ticks)?;
+    put_signs(out)?;
+    put_hatching(out)?;
+    put_grids(out, ticks)?;
+    put_torn(out, axis)?;
     put_present_flag(out, axis)?;
     put_form(out, b"<g id=\"x\" class=\"x\">", &[])?;
     put_tick_texts(out, axis.clock(), ticks)?;

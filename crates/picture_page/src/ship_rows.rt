@@ -4,34 +4,31 @@ ghost use Rattle.picture_page.specs.KnownPassages.{HasChamber};
 ghost use Rattle.picture_page.specs.ShipRows.{row_name, row_wait, row_passage, wait_line, row_number, row_picture, row, row_among, rows, ships_table};
 
 use crate::axis::Axis;
-use crate::form::put_form;
-use crate::fragments::{Fragment, put_fragments};
-use crate::lanes::{axis_head, box_width};
+use crate::form::{put_between, put_form};
+use crate::ground::put_span;
+use crate::lanes::{box_width, put_axis};
 use crate::passage::Passage;
 use crate::present::put_present_line;
-use crate::shapes::put_passage_box;
+use crate::shapes::{put_arrow, put_cargo, put_passage_box};
 use crate::stretch::{Stretch, stretch_of};
-use crate::times::Clock;
+use crate::times::{Clock, put_time};
+use crate::words::{put_count, put_plural};
 use instance_text::way_word;
 use lock_model::{Instance, Ship};
 use master_branch::arrival_order;
 use no_memory::NoMemory;
+use plain_text::{put, put_number};
 
 /// Appends a ship's way, name and cargo.
 #[tactic(auto, unfolding(crate::specs::ShipRows::row_name))]
 fn put_row_name(out: &mut Vec<u8>, ship: &Ship) -> Result<(), NoMemory>
     ensures { OnOk result (out.new.items ≡ out.old.items ++ row_name ship.now) }
 {
-    put_fragments(
-        out,
-        &[
-            Fragment::Form(b"<tr><th scope=\"row\">", &[]),
-            Fragment::Arrow(ship.way),
-            Fragment::Text(ship.name.as_slice()),
-            Fragment::Cargo(ship.cargo),
-            Fragment::Form(b"</th>", &[]),
-        ],
-    )
+    put_form(out, b"<tr><th scope=\"row\">", &[])?;
+    put_arrow(out, ship.way)?;
+    put(out, ship.name.as_slice())?;
+    put_cargo(out, ship.cargo)?;
+    put_form(out, b"</th>", &[])
 }
 
 /// Appends when a ship arrives, and how long it waits up to a minute.
@@ -39,22 +36,17 @@ fn put_row_name(out: &mut Vec<u8>, ship: &Ship) -> Result<(), NoMemory>
 fn put_row_wait(out: &mut Vec<u8>, clock: Clock, ship: &Ship, start: u32) -> Result<(), NoMemory>
     ensures { OnOk result (out.new.items ≡ out.old.items ++ row_wait clock ship.now start) }
 {
-    put_fragments(
+    put_between(
         out,
-        &[
-            Fragment::Form(
-                b"<td><svg width=\"812\" height=\"16\" role=\"img\"><title>",
-                &[],
-            ),
-            Fragment::Text(ship.name.as_slice()),
-            Fragment::Form(b", ", &[]),
-            Fragment::Text(way_word(ship.way)),
-            Fragment::Form(b": arrives ", &[]),
-            Fragment::Time(clock, ship.arrival as u64),
-            Fragment::Form(b", waits ", &[]),
-            Fragment::Count(start.saturating_sub(ship.arrival) as u64, b"minute"),
-        ],
-    )
+        b"<td><svg width=\"812\" height=\"16\" role=\"img\"><title>",
+        ship.name.as_slice(),
+        b", ",
+    )?;
+    put(out, way_word(ship.way))?;
+    put_form(out, b": arrives ", &[])?;
+    put_time(out, clock, ship.arrival as u64)?;
+    put_form(out, b", waits ", &[])?;
+    put_count(out, start.saturating_sub(ship.arrival) as u64, b"minute")
 }
 
 /// Appends which passage a ship takes, in a chamber of this name.
@@ -67,18 +59,14 @@ fn put_row_passage(
 ) -> Result<(), NoMemory>
     ensures { OnOk result (out.new.items ≡ out.old.items ++ row_passage clock name.now passage.now) }
 {
-    put_fragments(
+    put_form(
         out,
-        &[
-            Fragment::Form(
-                b", passes in lockage % of chamber ",
-                &[passage.number as u64],
-            ),
-            Fragment::Text(name),
-            Fragment::Span(clock, passage.start as u64, passage.end()),
-            Fragment::Form(b"</title><use href=\"#g\"/>", &[]),
-        ],
-    )
+        b", passes in lockage % of chamber ",
+        &[passage.number as u64],
+    )?;
+    put(out, name)?;
+    put_span(out, clock, passage.start as u64, passage.end())?;
+    put_form(out, b"</title><use href=\"#g\"/>", &[])
 }
 
 /// Appends the line of a wait between two pixels, where it has some.
@@ -170,14 +158,9 @@ fn put_row(
     put_row_wait(out, axis.clock(), ship, passage.start)?;
     put_row_passage(out, axis.clock(), chamber.name.as_slice(), passage)?;
     put_row_picture(out, axis, ship.arrival, passage)?;
-    put_fragments(
-        out,
-        &[
-            Fragment::Form(b"</svg></td><td class=\"r\">", &[]),
-            Fragment::Number(passage.end().saturating_sub(ship.arrival as u64)),
-            Fragment::Form(b"</td></tr>\n", &[]),
-        ],
-    )
+    put_form(out, b"</svg></td><td class=\"r\">", &[])?;
+    put_number(out, passage.end().saturating_sub(ship.arrival as u64))?;
+    put_form(out, b"</td></tr>\n", &[])
 }
 
 /// Appends the row of a ship with the first of these passages that serves it.
@@ -236,32 +219,25 @@ pub(crate) fn put_ships(
     requires { All (HasChamber instance.now) passages.now }
     ensures { OnOk result (out.new.items ≡ out.old.items ++ ships_table instance.now axis.now passages.now cost) }
 {
-    put_fragments(
+    put_form(
         out,
-        &[
-            Fragment::Form(
-                b"<table class=\"t\" aria-label=\"ships by time\">\n<thead><tr><th scope=\"col\">ship",
-                &[],
-            ),
-            Fragment::Plural(instance.ships.as_slice().len() as u64),
-            Fragment::Form(b"</th><td>", &[]),
-            Fragment::Text(axis_head(axis)),
-            Fragment::Form(
-                b"</td><th scope=\"col\" class=\"r\">flow time</th></tr></thead>\n<tbody class=\"s\">\n",
-                &[],
-            ),
-        ],
+        b"<table class=\"t\" aria-label=\"ships by time\">\n<thead><tr><th scope=\"col\">ship",
+        &[],
+    )?;
+    put_plural(out, instance.ships.as_slice().len() as u64)?;
+    put_form(out, b"</th><td>", &[])?;
+    put_axis(out, axis)?;
+    put_form(
+        out,
+        b"</td><th scope=\"col\" class=\"r\">flow time</th></tr></thead>\n<tbody class=\"s\">\n",
+        &[],
     )?;
     put_rows(out, instance, axis, passages)?;
-    put_fragments(
+    put_form(
         out,
-        &[
-            Fragment::Form(
-                b"<tr class=\"f\"><th scope=\"row\">total</th><td></td><td class=\"r\">",
-                &[],
-            ),
-            Fragment::Number(cost),
-            Fragment::Form(b"</td></tr>\n</tbody>\n</table>\n", &[]),
-        ],
-    )
+        b"<tr class=\"f\"><th scope=\"row\">total</th><td></td><td class=\"r\">",
+        &[],
+    )?;
+    put_number(out, cost)?;
+    put_form(out, b"</td></tr>\n</tbody>\n</table>\n", &[])
 }

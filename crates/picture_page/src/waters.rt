@@ -3,8 +3,8 @@ ghost use Rattle.std.specs.Prelude.{◌≡◌, ◌≤◌, ◌<◌, ◌++◌, OnO
 ghost use Rattle.picture_page.specs.Waters.{drawn, gate, basin, ends, waters, chamber_size, size_below, feet};
 
 use crate::form::put_form;
-use crate::fragments::{Fragment, put_fragments};
 use crate::scales::{DeckScale, units_of};
+use crate::words::put_measures;
 use lock_model::Chamber;
 use no_memory::NoMemory;
 
@@ -93,17 +93,13 @@ fn put_chamber_size(
 ) -> Result<(), NoMemory>
     ensures { OnOk result (out.new.items ≡ out.old.items ++ chamber_size chamber.now middle base) }
 {
-    put_fragments(
+    put_form(
         out,
-        &[
-            Fragment::Form(
-                b"<text class=\"ft gy mi\" x=\"%\" y=\"%\">",
-                &[middle, base],
-            ),
-            Fragment::Measures(chamber.length, chamber.width),
-            Fragment::Form(b"</text>", &[]),
-        ],
-    )
+        b"<text class=\"ft gy mi\" x=\"%\" y=\"%\">",
+        &[middle, base],
+    )?;
+    put_measures(out, chamber.length, chamber.width)?;
+    put_form(out, b"</text>", &[])
 }
 
 /// Appends the chamber's size in the middle, where it is drawn long enough.

@@ -6,10 +6,9 @@ ghost use Rattle.picture_page.specs.Writing.{writing_at, writing};
 
 use crate::berths::ship_of;
 use crate::form::put_form;
-use crate::fragments::{Fragment, put_fragments};
 use crate::hulls::{Hull, hull_of};
 use crate::scales::DeckScale;
-use crate::words::metres_width;
+use crate::words::{metres_width, put_metres};
 use lock_model::{Instance, Lockage, MOST, Ship, Way};
 use no_memory::NoMemory;
 use plain_text::put;
@@ -118,18 +117,14 @@ fn put_letter(out: &mut Vec<u8>, hull: &Hull, x: u64, place: u8) -> Result<(), N
     requires { place < MOST }
     ensures { OnOk result (out.new.items ≡ out.old.items ++ letter_text hull.now x place) }
 {
-    put_fragments(
+    put(out, font_of(hull))?;
+    put_form(
         out,
-        &[
-            Fragment::Text(font_of(hull)),
-            Fragment::Form(
-                b"\" x=\"%\" y=\"%\"><tspan class=\"bd\">",
-                &[x, base_of(hull)],
-            ),
-            Fragment::Byte(b'A' + place),
-            Fragment::Form(b"</tspan>", &[]),
-        ],
-    )
+        b"\" x=\"%\" y=\"%\"><tspan class=\"bd\">",
+        &[x, base_of(hull)],
+    )?;
+    put(out, &[b'A' + place])?;
+    put_form(out, b"</tspan>", &[])
 }
 
 /// Appends the letter of a place alone, in the middle of the room.
@@ -162,15 +157,10 @@ fn has_size(ship: &Ship, hull: &Hull, room: &Room) -> bool
 fn put_ship_size(out: &mut Vec<u8>, ship: &Ship) -> Result<(), NoMemory>
     ensures { OnOk result (out.new.items ≡ out.old.items ++ ship_size ship.now) }
 {
-    put_fragments(
-        out,
-        &[
-            Fragment::Text(b"  "),
-            Fragment::Metres(ship.length),
-            Fragment::Text(b"&#215;"),
-            Fragment::Metres(ship.width),
-        ],
-    )
+    put(out, b"  ")?;
+    put_metres(out, ship.length)?;
+    put(out, b"&#215;")?;
+    put_metres(out, ship.width)
 }
 
 /// Appends the size of a ship after its name, where it has room.

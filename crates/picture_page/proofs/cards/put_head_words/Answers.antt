@@ -6,5 +6,10 @@ use Rattle.picture_page.proofs.cards.put_head_words.Goals as goal
 pub returns : goal.returns
 unfolding head_words
 returns c =
-    IfOk-equal c.put_fragments.result _ _ _ c.put_fragments.ensures
-    (rw c.way_word.ensures (simp append_assoc))
+    IfOk-equal c.put.result _ _ _ c.put.ensures
+    (rw (
+      c.in_ok-put_between.ensures,
+      c.in_ok-put_arrow.ensures,
+      c.in_ok-put_form.ensures,
+      c.way_word.ensures,
+    ) (simp append_assoc))

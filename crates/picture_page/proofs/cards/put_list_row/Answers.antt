@@ -6,8 +6,10 @@ use Rattle.picture_page.proofs.cards.put_list_row.Goals as goal
 pub returns : goal.returns
 unfolding list_row
 returns c =
-    IfOk-equal c.put_fragments.result _ _ _ c.put_fragments.ensures
+    IfOk-equal c.put_form-3.result _ _ _ c.put_form-3.ensures
     (rw (
+      c.in_ok-put_metres.ensures,
+      c.in_ok-put_form-2.ensures,
       c.in_ok-put_berth.ensures,
       c.in_ok-put_form.ensures,
       c.in_ok-put_list_ship.ensures,

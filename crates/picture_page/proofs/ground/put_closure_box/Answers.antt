@@ -6,8 +6,10 @@ use Rattle.picture_page.proofs.ground.put_closure_box.Goals as goal
 pub returns : goal.returns
 unfolding closure_box
 returns c =
-    IfOk-equal c.put_fragments.result _ _ _ c.put_fragments.ensures
+    IfOk-equal c.put_form-2.result _ _ _ c.put_form-2.ensures
     (rw (
+      c.in_ok-put_span.ensures,
+      c.in_ok-put_form.ensures,
       c.clock.ensures,
       c.saturating_sub-width.ensures,
       c.x-left.ensures.value,

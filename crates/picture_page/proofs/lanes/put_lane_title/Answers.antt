@@ -9,7 +9,10 @@ returns c =
     IfOk-equal c.put_form.result _ _ _ c.put_form.ensures
     (rw (
       c.in_ok-put_closed.ensures,
-      c.in_ok-put_fragments.ensures,
+      c.in_ok-put_count.ensures,
+      c.in_ok-put_between-2.ensures,
+      c.in_ok-put_time.ensures,
+      c.in_ok-put_between.ensures,
       c.as_slice.ensures.value,
       c.stand_word.ensures,
     ) (simp append_assoc))

@@ -6,8 +6,10 @@ use Rattle.picture_page.proofs.legend.put_begun_entry.Goals as goal
 pub returns : goal.returns
 unfolding begun_entry
 returns c =
-    IfOk-equal c.put_fragments.result _ _ _ c.put_fragments.ensures
+    IfOk-equal c.put-2.result _ _ _ c.put-2.ensures
     (rw (
+      c.in_ok-put_time.ensures,
+      c.in_ok-put.ensures,
       c.in_ok-put_frame.ensures,
       c.in_ok-put_passage_box.ensures,
       c.in_ok-put_entry.ensures,

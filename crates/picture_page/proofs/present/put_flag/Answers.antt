@@ -6,8 +6,5 @@ use Rattle.picture_page.proofs.present.put_flag.Goals as goal
 pub returns : goal.returns
 unfolding flag
 returns c =
-    IfOk-equal c.put_fragments.result _ _ _ c.put_fragments.ensures
-    (rw (
-      c.flag_middle.ensures,
-      c.half_flag.ensures,
-    ) (simp append_assoc))
+    IfOk-equal c.put.result _ _ _ c.put.ensures
+    (rw (c.in_ok-put_time.ensures, c.in_ok-put_form.ensures, c.flag_middle.ensures, c.half_flag.ensures) (simp append_assoc))

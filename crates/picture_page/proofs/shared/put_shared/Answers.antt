@@ -11,6 +11,9 @@ returns c =
       c.in_ok-put_tick_texts.ensures,
       c.in_ok-put_form.ensures,
       c.in_ok-put_present_flag.ensures,
-      c.in_ok-put_row_shapes.ensures,
+      c.in_ok-put_torn.ensures,
+      c.in_ok-put_grids.ensures,
+      c.in_ok-put_hatching.ensures,
+      c.in_ok-put_signs.ensures,
       c.clock.ensures,
     ) (simp append_assoc))

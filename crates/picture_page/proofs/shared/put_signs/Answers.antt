@@ -6,5 +6,5 @@ use Rattle.picture_page.proofs.shared.put_signs.Goals as goal
 pub returns : goal.returns
 unfolding signs
 returns c =
-    IfOk-equal c.put_fragments.result _ _ _ c.put_fragments.ensures
-    (simp append_assoc)
+    IfOk-equal c.put_form-3.result _ _ _ c.put_form-3.ensures
+    (rw (c.in_ok-put_form-2.ensures, c.in_ok-put_form.ensures) (simp append_assoc))

@@ -6,5 +6,11 @@ use Rattle.picture_page.proofs.ship_rows.put_row_name.Goals as goal
 pub returns : goal.returns
 unfolding row_name
 returns c =
-    IfOk-equal c.put_fragments.result _ _ _ c.put_fragments.ensures
-    (rw c.as_slice.ensures.value (simp append_assoc))
+    IfOk-equal c.put_form-2.result _ _ _ c.put_form-2.ensures
+    (rw (
+      c.in_ok-put_cargo.ensures,
+      c.in_ok-put.ensures,
+      c.in_ok-put_arrow.ensures,
+      c.in_ok-put_form.ensures,
+      c.as_slice.ensures.value,
+    ) (simp append_assoc))

@@ -6,5 +6,5 @@ use Rattle.picture_page.proofs.ship_rows.put_row_passage.Goals as goal
 pub returns : goal.returns
 unfolding row_passage
 returns c =
-    IfOk-equal c.put_fragments.result _ _ _ c.put_fragments.ensures
-    (rw c.end.ensures.value (simp append_assoc))
+    IfOk-equal c.put_form-2.result _ _ _ c.put_form-2.ensures
+    (rw (c.in_ok-put_span.ensures, c.in_ok-put.ensures, c.in_ok-put_form.ensures, c.end.ensures.value) (simp append_assoc))

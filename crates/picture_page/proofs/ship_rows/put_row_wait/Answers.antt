@@ -6,8 +6,13 @@ use Rattle.picture_page.proofs.ship_rows.put_row_wait.Goals as goal
 pub returns : goal.returns
 unfolding row_wait
 returns c =
-    IfOk-equal c.put_fragments.result _ _ _ c.put_fragments.ensures
+    IfOk-equal c.put_count.result _ _ _ c.put_count.ensures
     (rw (
+      c.in_ok-put_form-2.ensures,
+      c.in_ok-put_time.ensures,
+      c.in_ok-put_form.ensures,
+      c.in_ok-put.ensures,
+      c.in_ok-put_between.ensures,
       c.as_slice.ensures.value,
       c.way_word.ensures,
       c.saturating_sub.ensures,
