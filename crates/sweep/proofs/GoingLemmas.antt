@@ -63,6 +63,18 @@ module _ (case : SweepCase) where
         };
   }
 
+  -- by the soonest costs of its missing ships,
+  pub arc_late : (made : Made) (from : CodeLabel) (step : Step) (next : CodeLabel)
+      → ((g : Group) → IsStepBy case.instance.now (label_of from) g step → IsGoneOn case.instance.now (cuts_of case) (label_of from) step.chamber g (label_of next))
+      → (EndsBelow case.instance.now (cuts_of case) made.goal (label_of next) → ⊥) → IsArcLed case made from step.chamber step.way step.arc
+  arc_late made from step next gone none = record {
+    each = λ g on. record {
+      next = label_of next;
+      gone = gone g (step_by from step g on);
+      met = met-dropped case.instance.now (cuts_of case) made.goal (labels_of made.labels.items.items) (label_of next) none;
+    };
+  }
+
   -- and to one that is kept
   pub arc_kept : (made : Made) (from : CodeLabel) (step : Step) (next : CodeLabel)
       → ((g : Group) → IsStepBy case.instance.now (label_of from) g step → IsGoneOn case.instance.now (cuts_of case) (label_of from) step.chamber g (label_of next))
@@ -118,6 +130,13 @@ module _ (case : SweepCase) where
   bound_treated made from n origin at above =
       treated-dropped case.instance.now (cuts_of case) made.goal (labels_of made.labels.items.items) n
       (subst (λ label. EndsBelow case.instance.now (cuts_of case) made.goal label → ⊥) (sym at) (bound_none from.label from.missing from.gains made.goal origin.missing origin.gains above))
+
+  -- where its missing ships cost too much at their soonest,
+  pub late_treated : (made : Made) (label : CodeLabel) (n : ℕ) → label_at (labels_of made.labels.items.items) n ≡ label_of label
+      → (EndsBelow case.instance.now (cuts_of case) made.goal (label_of label) → ⊥) → IsTreated case.instance.now (cuts_of case) made.goal (labels_of made.labels.items.items) n
+  late_treated made label n at none =
+      treated-dropped case.instance.now (cuts_of case) made.goal (labels_of made.labels.items.items) n
+      (subst (λ l. EndsBelow case.instance.now (cuts_of case) made.goal l → ⊥) (sym at) none)
 
   -- and where it has gone on by all chambers, some ship being missing.
   pub led_treated : (made : Made) (label : Label) (n s : ℕ) → label_at (labels_of made.labels.items.items) n ≡ label → s < length case.instance.now.ships → label.served s ≡ false

@@ -3,3 +3,4 @@ pub mod BoundLemmas
 pub mod GoingLemmas
 pub mod EndLemmas
 pub mod JudgeLemmas
+pub mod SoonestLemmas

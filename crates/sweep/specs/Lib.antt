@@ -2,3 +2,4 @@ pub mod Bounds
 pub mod Going
 pub mod Judging
 pub mod Ends
+pub mod Soonest

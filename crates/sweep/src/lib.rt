@@ -15,6 +15,7 @@ mod asked;
 mod judging;
 mod origin;
 mod plan;
+mod soonest;
 mod sums;
 mod sweep_case;
 mod sweeper;

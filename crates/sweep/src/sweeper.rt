@@ -12,6 +12,7 @@ ghost use Rattle.sweep.specs.Going.{IsSound, IsFurther, IsMetBy, IsBegun, IsArcL
 use crate::origin::{
     Missing, Origin, gains_of, is_above, missing_of, missing_triples, room_of, spread_of,
 };
+use crate::soonest::is_late_above;
 use crate::sums::less;
 use crate::sweep_case::SweepCase;
 use lock_model::Way;
@@ -72,7 +73,7 @@ impl Sweeper<'_, '_> {
     }
 
     // Goes on by a step.
-    #[tactic(auto, using(crate::proofs::GrownLemmas::sound_same, crate::proofs::GrownLemmas::further_same, crate::proofs::GrownLemmas::further_more, crate::proofs::GoingLemmas::arc_dropped, crate::proofs::GoingLemmas::arc_kept))]
+    #[tactic(auto, using(crate::proofs::GrownLemmas::sound_same, crate::proofs::GrownLemmas::further_same, crate::proofs::GrownLemmas::further_more, crate::proofs::GoingLemmas::arc_dropped, crate::proofs::GoingLemmas::arc_late, crate::proofs::GoingLemmas::arc_kept))]
     fn go_on(&mut self, case: &SweepCase, from: &Origin, step: &Step) -> Result<(), PriceError>
         requires sound { IsSound case.now self.old }
         requires origin { IsOrigin case.now from.now }
@@ -88,6 +89,10 @@ impl Sweeper<'_, '_> {
         };
         let above = is_above(case, &label, missing, &gains, self.made.goal)?;
         if above {
+            return Ok(());
+        }
+        let late = is_late_above(case, &label, missing.triples, &gains, self.made.goal)?;
+        if late {
             return Ok(());
         }
         let kept = KeptLabel {
@@ -194,7 +199,7 @@ impl Sweeper<'_, '_> {
     }
 
     // Goes on from the label of a number that misses a ship, unless its bound is above the goal, and closes it.
-    #[tactic(auto, using(crate::proofs::GrownLemmas::further_more, crate::proofs::GoingLemmas::at_number, crate::proofs::GoingLemmas::at_number_on, crate::proofs::GoingLemmas::bound_treated, crate::proofs::GoingLemmas::led_treated))]
+    #[tactic(auto, using(crate::proofs::GrownLemmas::further_more, crate::proofs::GoingLemmas::at_number, crate::proofs::GoingLemmas::at_number_on, crate::proofs::GoingLemmas::bound_treated, crate::proofs::GoingLemmas::late_treated, crate::proofs::GoingLemmas::led_treated))]
     fn treat(&mut self, case: &SweepCase, from: &Origin, missed: u8) -> Result<(), PriceError>
         requires sound { IsSound case.now self.old }
         requires origin { IsOrigin case.now from.now }
@@ -206,6 +211,11 @@ impl Sweeper<'_, '_> {
     {
         let above = is_above(case, &from.label, from.missing, &from.gains, self.made.goal)?;
         if above {
+            self.close(case, from.number);
+            return Ok(());
+        }
+        let late = is_late_above(case, &from.label, from.missing.triples, &from.gains, self.made.goal)?;
+        if late {
             self.close(case, from.number);
             return Ok(());
         }

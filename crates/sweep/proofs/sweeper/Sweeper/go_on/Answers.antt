@@ -2,7 +2,7 @@ use Rattle.std.proofs.Common.{◌≡◌, IsTrue, refl, sym, subst, rules}
 use Rattle.sweep_labels.specs.Coming.{AllArrive}
 use Rattle.sweep.specs.Bounds.{cuts_of}
 use Rattle.sweep.proofs.GrownLemmas.{sound_same, further_same, further_more}
-use Rattle.sweep.proofs.GoingLemmas.{arc_dropped, arc_kept}
+use Rattle.sweep.proofs.GoingLemmas.{arc_dropped, arc_late, arc_kept}
 use Rattle.sweep.proofs.sweeper.Sweeper.go_on.Goals as goal
 
 pub returns-then-above-clause-further : goal.returns-then-above-clause-further
@@ -16,6 +16,14 @@ returns-then-above-clause-led c =
     let over : IsTrue c.in_ok-above.above = subst IsTrue (sym c.if-above.true) refl in
     arc_dropped case c.args.self.now.made c.args.from.now c.args.step.now c.in_ok-label.label (record { ships = c.in_ok-less.field-0; triples = c.missing_triples.result }) c.in_ok-gains.gains c.requires.origin
     (λ g is. c.in_ok-label.ensures (cuts_of case) arrive g is) c.in_ok-less.ensures c.missing_triples.ensures c.in_ok-gains.ensures.gains (c.in_ok-above.ensures over)
+
+pub returns-then-late-clause-led : goal.returns-then-late-clause-led
+returns-then-late-clause-led c =
+    let case = c.args.case.now in
+    let listed : c.deref.result.now ≡ case.arrivals.items = search rules in
+    let arrive : AllArrive case.instance.now (cuts_of case) c.deref.result.now = subst (AllArrive case.instance.now (cuts_of case)) (sym listed) c.requires.sound.arrive in
+    let over : IsTrue c.in_ok-late.late = subst IsTrue (sym c.if-late.true) refl in
+    arc_late case c.args.self.now.made c.args.from.now.label c.args.step.now c.in_ok-label.label (λ g is. c.in_ok-label.ensures (cuts_of case) arrive g is) (c.in_ok-late.ensures over)
 
 pub keep-requires : goal.keep-requires
 keep-requires c = sound_same c.args.case.now _ _ c.requires.sound c.in_ok-gains.ensures.lanes refl
