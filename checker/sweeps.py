@@ -4,8 +4,8 @@ Beginnings of uncut plans are made lockage by lockage, in the order of start and
 flow time, and then by chamber and way the least start of a next lockage. Of two labels of the same ships one that is nowhere
 greater does for both. And a label is dropped where no plan below the cost begins so, since 100 times its flow time, what the
 chambers' ways to go on are worth at least, and the prices of the missing ships, less those of the triples of which at least
-two ships are missing, come to too much. How much they may come to more, its room, is greatest of the first label. Sets of
-ships are numbers whose bits are the ships."""
+two ships are missing, come to too much; a ship that has waited for longer than its price counts with that. How much they may
+come to more, its room, is greatest of the first label. Sets of ships are numbers whose bits are the ships."""
 
 from functools import lru_cache
 from itertools import takewhile
@@ -46,6 +46,17 @@ class Sweep:
         return sum(self.prices.ships[s] for s in ships) - charged(self.prices, ships), [
             min((self.ships[s].arrival for s in ships if self.ships[s].way == way), default=inf) for way in (0, 1)]
 
+    def overdue(self, served, starts):
+        """What missing ships cost at least beyond their prices, since they are served no sooner than a chamber is ready. Only
+        where each is ready for a way no later than by a lockage of the other or an arrival: then none of its ways to go on
+        begins later without some ships."""
+        first, chambers = self.left(served)[1], list(enumerate(self.chambers))
+        if any(starts[2 * c + way] > max(starts[2 * c + 1 - way] + own.passage, first[way]) for c, own in chambers for way in (0, 1)):
+            return 0
+        return sum(max(0, 100 * min((max(starts[2 * c + ship.way] - ship.arrival, 0) + own.passage + ship.handling
+                                     for c, own in chambers if not self.tables[c].is_cut({s}, s)), default=inf) - self.prices.ships[s])
+                   for s, ship in enumerate(self.ships) if not served >> s & 1)
+
     def room(self, served, flow, starts):
         """The room of a label, and what each chamber's ways to go on are worth at least."""
         least = [self.least(c, starts[2 * c:2 * c + 2]) for c in range(len(self.chambers))]
@@ -66,6 +77,8 @@ class Sweep:
     def gone_on(self, served, flow, *starts):
         """The labels that one lockage more makes of a label, each with the ships that it serves."""
         room, least = self.room(served, flow, starts)
+        if self.overdue(served, starts) > room:
+            return
         for place, minute in enumerate(starts):
             c = place // 2
             arcs = takewhile(lambda arc: arc[0] <= room + least[c], self.arcs(c, place % 2, minute))
