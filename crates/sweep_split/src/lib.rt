@@ -1,0 +1,18 @@
+//! Late ships: a sweep split in two, definitions and laws, without code.
+//!
+//! The bound of a label by prices knows little of what crowds later in the day cost beyond their
+//! prices. So the last ships of a day are swept alone first: a first label of theirs serves all
+//! others. Its sweep tells their late cost, below which nothing serves them. A completion of any
+//! label that misses all of them falls into two parts, an early one of the other ships and a late
+//! one of these, and each part has a timetable of its own in which its ships have no more flow
+//! time than in the whole. So a label is dropped, too, where the early bound, which asks for
+//! nothing of the late ships, reaches the goal less the late cost.
+//!
+//! `specs/Split` has early and late labels, late costs, and what a program tests of a label before
+//! it splits it: that it misses all late ships, that its chambers are ready no sooner than those of
+//! the late ships' sweep, and that each chamber that is ready for one way is ready for the other a
+//! lockage later.
+//!
+//! The laws stand in `proofs/`: the lines of some ships of a completion (`KeptLemmas`), labels split
+//! (`SplitLemmas`), and a worked split (`SplitRows`).
+#![tactic(auto)]
