@@ -1,1 +1,3 @@
+pub mod KeptLemmas
 pub mod SplitLemmas
+pub mod SplitRows
