@@ -1,3 +1,4 @@
 pub mod KeptLemmas
 pub mod SplitLemmas
+pub mod LateLemmas
 pub mod SplitRows

@@ -22,7 +22,7 @@ use Rattle.sweep_rules.specs.Completion.{AreLawfulAfter, EndsBelow, flow_startin
 use Rattle.sweep_rules.proofs.FirstLemmas.{starts_in, first-completion, first-cost}
 use Rattle.sweep_rules.proofs.RowLock.{row}
 use Rattle.sweep_rules.proofs.Rows.{up, in_order}
-use Rattle.sweep_split.specs.Split.{early_label, late_label, other_way, IsSteady, IsNoSooner, MissesAll, HasLateCost}
+use Rattle.sweep_split.specs.Split.{early_label, late_label, other_way, IsSteady, IsNoSooner, MissesAll, IsLateLabel, HasLateCost}
 use Rattle.sweep_split.proofs.KeptLemmas.{starts_after, after-lawful}
 use Rattle.sweep_split.proofs.SplitLemmas.{split-ends, late-raised}
 
@@ -188,3 +188,7 @@ late-ready c known way = record {
 
 raised-ends : EndsBelow row [] 36 (late_label late arrival_of_late)
 raised-ends = late-raised row [] late opens arrival_of_late 36 late-ready late-ends
+
+-- so a sweep of the late ship may begin there
+begins-late : IsLateLabel row [] late opens (late_label late arrival_of_late)
+begins-late = record { served = λ s known. refl; ready = late-ready; flow = refl }

@@ -5,7 +5,7 @@ use Rattle.lock_model.specs.declared.instance.Instance.{Instance}
 use Rattle.lock_model.specs.declared.way.Way.{Way}
 use Rattle.lock_model.specs.declared.way.Way.TheVariants.{Up, Down}
 use Rattle.price_rules.specs.Prices.{PlainCut}
-use Rattle.sweep_rules.specs.Label.{Label, IsWanted}
+use Rattle.sweep_rules.specs.Label.{Label, IsWanted, IsReadyFrom}
 use Rattle.sweep_rules.specs.Completion.{EndsBelow}
 
 -- the label as if it had served the late ships too
@@ -32,6 +32,12 @@ pub record IsNoSooner (I : Instance) (cuts : List PlainCut) (ready : ℕ → Way
 -- the label misses all late ships
 pub record MissesAll (I : Instance) (late : ℕ → Bool) (label : Label) : Type 0 where
   pub missing : (s : ℕ) → s < length I.ships → late s ≡ true → label.served s ≡ false
+
+-- a label that a sweep of the late ships begins with: the same, with its minutes raised, it may be, to the first arrival of a ship that is wanted
+pub record IsLateLabel (I : Instance) (cuts : List PlainCut) (late : ℕ → Bool) (minutes : ℕ → Way → ℕ) (label : Label) : Type 0 where
+  pub served : (s : ℕ) → s < length I.ships → label.served s ≡ not (late s)
+  pub ready : (c : ℕ) → c < length I.chambers → (way : Way) → IsReadyFrom I cuts label.served c way (minutes c way) (label.ready c way)
+  pub flow : label.flow ≡ 0
 
 -- A late cost: from these minutes on nothing serves the late ships with less flow time.
 pub record HasLateCost (I : Instance) (cuts : List PlainCut) (late : ℕ → Bool) (ready : ℕ → Way → ℕ) (cost : ℕ) : Type 0 where

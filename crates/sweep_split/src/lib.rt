@@ -14,5 +14,6 @@
 //! lockage later.
 //!
 //! The laws stand in `proofs/`: the lines of some ships of a completion (`KeptLemmas`), labels split
-//! (`SplitLemmas`), and a worked split (`SplitRows`).
+//! (`SplitLemmas`), a late cost where the sweep of the late ships treated all its labels
+//! (`LateLemmas`), and a worked split (`SplitRows`).
 #![tactic(auto)]
