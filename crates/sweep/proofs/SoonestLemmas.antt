@@ -1,17 +1,18 @@
 -- What missing ships cost at the least behind a label: chamber by chamber, and what follows from it.
-use Rattle.std.proofs.Common.{◌≡◌, ℕ, Bool, ◌+◌, ◌*◌, ◌≤◌, ◌<◌, max, inl, inr, List, [], ◌∷◌, length, sum_by, refl, sym, ap, ◌∙◌, subst, arith, slice_index_or}
+use Rattle.std.proofs.Common.{◌≡◌, ℕ, Bool, ◌+◌, ◌≤◌, ◌<◌, max, inl, inr, List, [], ◌∷◌, length, sum_by, sym, subst, arith, slice_index_or}
 use Rattle.std.proofs.lemmas.Bool.Decides.{eqb_tells}
 use Rattle.lock_model.specs.Fleet.{ship_at, chamber_at}
 use Rattle.lock_model.specs.declared.limits.TheConstants.{SHIPS}
 use Rattle.lock_model.specs.declared.instance.Instance.{Instance}
 use Rattle.lock_model.specs.declared.way.Way.{Way}
 use Rattle.lock_model.specs.declared.way.Way.TheVariants.{Up, Down}
-use Rattle.lock_rules.specs.Arrival.{numbers_from}
-use Rattle.price_rules.specs.Prices.{PlainCut, PriceList, price_at}
-use Rattle.sweep_rules.specs.Label.{Label, IsWanted, IsReadyFrom}
+use Rattle.price_rules.specs.Prices.{PlainCut}
+use Rattle.sweep_rules.specs.Label.{IsWanted}
 use Rattle.sweep_rules.specs.Completion.{EndsBelow}
-use Rattle.sweep_rules.specs.Gain.{IsGain, ships_missing, triples_missing}
-use Rattle.sweep_split.specs.Soonest.{IsSteady, IsSoonest}
+use Rattle.sweep_rules.specs.Gain.{ships_missing, triples_missing}
+use Rattle.sweep_split.specs.Split.{IsSteady, other_way}
+use Rattle.sweep_split.specs.Soonest.{IsSoonest}
+use Rattle.sweep_split.proofs.SoonestLemmas.{soon-none}
 use Rattle.sweep_labels.specs.declared.arrivals.Coming.{Coming}
 use Rattle.sweep_labels.specs.declared.arrivals.Arrivals.{Arrivals}
 use Rattle.sweep_labels.specs.declared.label.Label.{Label as CodeLabel}
@@ -23,13 +24,6 @@ use Rattle.sweep.specs.declared.sweep_case.SweepCase.{SweepCase}
 use Rattle.sweep.specs.declared.origin.Missing.{Missing}
 use Rattle.sweep.specs.Bounds.{cuts_of, gain_in, AreGains, IsBoundAbove}
 use Rattle.sweep.specs.Soonest.{soon_at, cost_from, AreLower, AreSoon, AreSoonIn, AreSoonBefore, IsSteadyIn, AreSteadyBefore}
-
-soon-none : (I : Instance) (cuts : List PlainCut) (label : Label) (prices : PriceList) (gains : ℕ → ℕ) (soon : ℕ → ℕ) (goal : ℕ)
-    → IsSteady I cuts label → IsSoonest I cuts label soon → ((c : ℕ) → c < length I.chambers → IsGain I c cuts label prices (gains c))
-    → 100 * goal + sum_by gains (numbers_from 0 (length I.chambers)) + triples_missing I prices label.served
-      < 100 * label.flow + sum_by (λ s. max (price_at prices s) (100 * soon s)) (ships_missing I label.served) + 100
-    → EndsBelow I cuts goal label → ⊥
-soon-none I cuts label prices gains soon goal steady soonest are above ends = ?
 
 -- no listed ship, and one more
 pub lower_none : (items : List Coming) (ready pass : ℕ) (soonest : List ℕ) → AreSoon items ready pass 0 soonest
@@ -129,9 +123,9 @@ module _ (case : SweepCase) (label : CodeLabel) (arrive : AllArrive case.instanc
   -- a label is steady where its chambers are
   steady : AreSteadyBefore case label (length case.instance.now.chambers) → IsSteady case.instance.now (cuts_of case) (label_of label)
   steady are = record {
-    soon = λ c known way from s wanted.
+    soon = λ c known way s wanted.
         let d = some case.arrivals.items c (omega (arith, known, case.level)) in
-        (are.each c d known).soon case.instance.now (cuts_of case) c few (arrive.each c d known) way from s wanted;
+        (are.each c d known).soon case.instance.now (cuts_of case) c few (arrive.each c d known) way (other_way way) s wanted;
   }
 
   -- the minutes are the soonest ones
@@ -140,8 +134,11 @@ module _ (case : SweepCase) (label : CodeLabel) (arrive : AllArrive case.instanc
   soonest-is soonest are = record {
     least = λ c known way s wanted.
         let d = some case.arrivals.items c (omega (arith, known, case.level)) in
-        omega (arith, soon_in case.instance.now (cuts_of case) (is_in label.served.bits) c (slice_index_or case.arrivals.items c d) (times_at label.ready c)
-        (chamber_at case.instance.now c).pass soonest few (arrive.each c d known) (are.each c d known) way s wanted);
+        omega (
+          arith,
+          soon_in case.instance.now (cuts_of case) (is_in label.served.bits) c (slice_index_or case.arrivals.items c d) (times_at label.ready c)
+              (chamber_at case.instance.now c).pass soonest few (arrive.each c d known) (are.each c d known) way s wanted,
+        );
   }
 
   pub late_none : (soonest : List ℕ) (missing : Missing) (gains : List ℕ) (goal : ℕ) → AreSteadyBefore case label (length case.instance.now.chambers)

@@ -60,7 +60,12 @@ fn soonest_of(case: &SweepCase, label: &Label) -> Soonest
     let mut soonest = [NEVER; SHIPS];
     for chamber in 0..case.instance.chambers.as_slice().len() {
         let pass = case.instance.chambers.as_slice()[chamber].pass;
-        lower_both(&mut soonest, &case.arrivals[chamber], &label.ready[chamber], pass);
+        lower_both(
+            &mut soonest,
+            &case.arrivals[chamber],
+            &label.ready[chamber],
+            pass,
+        );
     }
     soonest
 }
@@ -108,7 +113,12 @@ fn is_steady(case: &SweepCase, label: &Label) -> bool
 {
     for chamber in 0..case.instance.chambers.as_slice().len() {
         let pass = case.instance.chambers.as_slice()[chamber].pass;
-        if !is_steady_in(&case.arrivals[chamber], &label.served, &label.ready[chamber], pass) {
+        if !is_steady_in(
+            &case.arrivals[chamber],
+            &label.served,
+            &label.ready[chamber],
+            pass,
+        ) {
             return false;
         }
     }

@@ -214,7 +214,13 @@ impl Sweeper<'_, '_> {
             self.close(case, from.number);
             return Ok(());
         }
-        let late = is_late_above(case, &from.label, from.missing.triples, &from.gains, self.made.goal)?;
+        let late = is_late_above(
+            case,
+            &from.label,
+            from.missing.triples,
+            &from.gains,
+            self.made.goal,
+        )?;
         if late {
             self.close(case, from.number);
             return Ok(());

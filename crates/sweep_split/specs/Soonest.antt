@@ -6,12 +6,7 @@ use Rattle.lock_model.specs.declared.way.Way.{Way}
 use Rattle.price_rules.specs.Prices.{PlainCut}
 use Rattle.sweep_rules.specs.Label.{Label, IsWanted}
 
--- Each chamber is ready for a way no later than a lockage that begins as soon as it may lets it be, or than a ship arrives that is wanted.
-pub record IsSteady (I : Instance) (cuts : List PlainCut) (label : Label) : Type 0 where
-  pub soon : (c : ℕ) → c < length I.chambers → (way from : Way) (s : ℕ) → IsWanted I cuts label.served c way s
-      → label.ready c way ≤ max (label.ready c from + (chamber_at I c).pass) (ship_at I s).arrival
-
--- No chamber that wants the ship has passed sooner than so many minutes from its arrival on, and its handling.
+-- No chamber that wants the ship has passed with it sooner than so many minutes after its arrival.
 pub record IsSoonest (I : Instance) (cuts : List PlainCut) (label : Label) (soon : ℕ → ℕ) : Type 0 where
   pub least : (c : ℕ) → c < length I.chambers → (way : Way) (s : ℕ) → IsWanted I cuts label.served c way s
       → soon s + (ship_at I s).arrival ≤ max (label.ready c way) (ship_at I s).arrival + (chamber_at I c).pass + (ship_at I s).handling

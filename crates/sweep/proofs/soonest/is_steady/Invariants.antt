@@ -1,5 +1,3 @@
-use Rattle.std.proofs.Common.{ℕ}
-use Rattle.sweep.specs.Bounds.{cuts_of}
 use Rattle.sweep.specs.Soonest.{AreSteadyBefore}
 use Rattle.sweep.proofs.soonest.is_steady.Given as goal
 

@@ -1,4 +1,3 @@
-use Rattle.std.proofs.Common.{ℕ}
 use Rattle.sweep.specs.Soonest.{AreSoon, AreLower}
 use Rattle.sweep.proofs.soonest.lower_all.Given as goal
 

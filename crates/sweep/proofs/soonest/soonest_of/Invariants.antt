@@ -1,5 +1,3 @@
-use Rattle.std.proofs.Common.{ℕ, ◌≡◌, length}
-use Rattle.lock_model.specs.declared.limits.TheConstants.{SHIPS}
 use Rattle.sweep.specs.Soonest.{AreSoonBefore}
 use Rattle.sweep.proofs.soonest.soonest_of.Given as goal
 
