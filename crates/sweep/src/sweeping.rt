@@ -122,7 +122,7 @@ fn sweep_goals(
     sweeper: &mut Sweeper,
     limits: SweepLimits,
 ) -> Result<u64, PriceError>
-    requires sound { IsSound case.now sweeper.old }
+    requires { IsSound case.now sweeper.old }
     ensures { OnOk result (IsSwept case.now.instance.now (cuts_of case.now) sweeper.new.made.goal) }
 {
     let mut goals = Goals::new(asked);
