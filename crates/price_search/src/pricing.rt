@@ -368,7 +368,9 @@ impl Pricing {
         prices: &'a Prices,
         goals: &Goals,
     ) -> Option<SweepEnd<'a>> {
-        let all = self.labels.min(goals.labels.saturating_mul(COSTS_OF_A_SWEEP));
+        let all = self
+            .labels
+            .min(goals.labels.saturating_mul(COSTS_OF_A_SWEEP));
         let asked = SweepAsked {
             instance,
             cuts: self.cuts.as_slice(),
