@@ -18,6 +18,7 @@ const LIMITS: Limits = Limits {
 
 const SWEEP_LIMITS: SweepLimits = SweepLimits {
     labels: 1_000,
+    all: 1_000,
     groups: 100,
     turns: 10_000,
 };
@@ -83,12 +84,13 @@ impl PricedRoot {
             instance: &self.instance,
             cuts: self.cuts.as_slice(),
             prices: &self.prices,
+            first: cost,
             goal: cost,
         };
         let SweepOutcome { end, .. } = sweep(alloc, &asked, SWEEP_LIMITS)?;
         match end {
             SweepEnd::Swept(swept) => Ok(swept),
-            SweepEnd::Cheaper(_plan) => Err("not swept".into()),
+            SweepEnd::Cheaper { .. } => Err("not swept".into()),
         }
     }
 }

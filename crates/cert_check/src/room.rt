@@ -19,6 +19,7 @@ pub(crate) const PRICE_ROOM: Limits = Limits {
 // What a sweep may take: turns as for a price mark.
 pub(crate) const SWEEP_ROOM: SweepLimits = SweepLimits {
     labels: LABELS,
+    all: LABELS as u64,
     groups: GROUPS,
     turns: u64::MAX,
 };

@@ -16,7 +16,7 @@ fn ends_swept(claim: &Claim, end: &SweepEnd) -> bool
 {
     match end {
         SweepEnd::Swept(swept) => swept.cost() == claim.cost,
-        SweepEnd::Cheaper(_) => false,
+        SweepEnd::Cheaper { .. } => false,
     }
 }
 
@@ -31,6 +31,7 @@ fn is_cost_swept(alloc: Global, claim: &Claim, number: usize) -> Result<bool, No
         instance: claim.instance,
         cuts: claim.chamber_cuts,
         prices: &prices,
+        first: claim.cost,
         goal: claim.cost,
     };
     match sweep(alloc, &asked, SWEEP_ROOM) {

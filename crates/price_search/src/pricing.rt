@@ -7,6 +7,7 @@ ghost use Rattle.price_search.specs.Showing.{IsShownOf};
 use crate::appending::append;
 use crate::offers::Offer;
 use crate::round::LIMITS;
+use crate::sweeping::Goals;
 use lock_model::Instance;
 use master_branch::Node;
 use no_memory::NoMemory;
@@ -14,16 +15,19 @@ use price_bound::{KeptLines, PricedNode, show};
 use price_raise::{Ascent, Pace};
 use price_terms::{ChamberCut, Prices, Shown};
 use std::alloc::Global;
-use sweep::{SweepAsked, SweepLimits, SweepOutcome, sweep};
+use sweep::{SweepAsked, SweepEnd, SweepLimits, SweepOutcome, sweep};
 
 // The most rounds in a search.
 const MOST_ROUNDS: u32 = 10_000;
 // The most rounds that are tried at a node; the pricing ends them before.
 pub(crate) const MOST_AT_A_NODE: u32 = 2_000;
-/// The most labels of one sweep, which take some 260 bytes each while it lasts.
+/// The most labels for one cost of a sweep, which take some 260 bytes each while it lasts.
 pub(crate) const MOST_LABELS_AT_ONCE: u64 = 650_000;
-/// The most labels of one sweep while a further ascent may still bring the goal nearer.
+/// The most labels for one cost while a further ascent may still bring the goal nearer.
 pub(crate) const FEW_LABELS_AT_ONCE: u64 = 30_000;
+// So many times the most labels for one cost all costs of a sweep may take: each takes some times as many as the
+// one before.
+const COSTS_OF_A_SWEEP: u64 = 4;
 // The most ascents at the root after its first one, each with more triples.
 const MORE_ASCENTS: u32 = 3;
 // With fewer missing ships a node is searched faster than prices are worked out.
@@ -354,36 +358,39 @@ impl Pricing {
         }
     }
 
-    /// Sweeps a cost, in minutes, by these prices and the book's first cuts. None where that takes more
-    /// than `LIMITS` or so many labels or those that are left, or for want of memory; then the labels that
-    /// it might have made are spent.
+    /// Sweeps the best cost by these prices and the book's first cuts. None where that takes more than
+    /// `LIMITS`, more labels for a cost than so many, or more for all costs than some times that or those that
+    /// are left, or for want of memory; then the labels that it might have made are spent.
     pub(crate) fn sweep<'a>(
         &'a mut self,
         alloc: Global,
         instance: &'a Instance,
         prices: &'a Prices,
-        goal: u64,
-        at_once: u64,
-    ) -> Option<SweepOutcome<'a>> {
-        let most_labels = self.labels.min(at_once);
+        goals: &Goals,
+    ) -> Option<SweepEnd<'a>> {
+        let all = self
+            .labels
+            .min(goals.labels.saturating_mul(COSTS_OF_A_SWEEP));
         let asked = SweepAsked {
             instance,
             cuts: self.cuts.as_slice(),
             prices,
-            goal,
+            first: goals.reached,
+            goal: goals.best,
         };
         let limits = SweepLimits {
-            labels: most_labels as usize,
+            labels: goals.labels as usize,
+            all,
             groups: LIMITS.groups,
             turns: LIMITS.turns,
         };
         match sweep(alloc, &asked, limits) {
-            Ok(outcome) => {
-                self.labels = self.labels.saturating_sub(outcome.labels);
-                Some(outcome)
+            Ok(SweepOutcome { end, labels }) => {
+                self.labels = self.labels.saturating_sub(labels);
+                Some(end)
             }
             Err(_) => {
-                self.labels = self.labels.saturating_sub(most_labels);
+                self.labels = self.labels.saturating_sub(all);
                 None
             }
         }

@@ -1,48 +1,25 @@
 //! The root, swept.
 ghost use Rattle.master_branch.specs.Node.{IsNodeOf};
-ghost use Rattle.price_search.specs.Holding.{Ends, was_closed, was_ended};
+ghost use Rattle.price_search.specs.Holding.{Stays, Ends, was_closed, was_ended};
 
 use crate::desk::{Desk, InHand};
 use crate::found::carry_out;
-use crate::pricing::{Pricing, reached_by};
+use crate::pricing::Pricing;
 use placed_groups::Memory;
 use price_terms::{Prices, Swept};
-use sweep::{SweepEnd, SweepOutcome, UncutPlan};
+use sweep::{SweepEnd, UncutPlan};
 
 // The most sweeps at the root.
 const MOST_SWEEPS: u32 = 200;
-// A sweep that made fewer labels cost next to nothing.
-const FEW_LABELS: u64 = 4_000;
-// After one that made more, a goal that is farther by an eighth may take more than there may be.
-const MANY_LABELS: u64 = 100_000;
 
-// Costs, in minutes, that are swept one after the other, each with so many labels at the most. What a sweep
-// takes hangs on how far its goal is above what prices reach, so goals rise from there.
+/// Costs, in minutes: one that prices or a sweep have reached, and the best one, which is to be swept with so
+/// many labels for one cost at the most. What a sweep takes hangs on how far its cost is above what prices
+/// reach, so costs are swept from there.
 #[derive(Clone, Copy)]
-struct Goals {
-    reached: u64,
-    distance: u64,
-    labels: u64,
-}
-
-impl Goals {
-    // The next goal, where the best plan costs so much.
-    fn next(self, best: u64) -> u64 {
-        self.reached.saturating_add(self.distance).min(best)
-    }
-
-    // After a sweep that made so many labels, the next goal is half as far again, or an eighth where they
-    // weren't few, or half of that where they were many. Labels grow so fast with the distance that the last
-    // sweep takes most.
-    fn rise(&mut self, labels: u64) {
-        let parts = match labels {
-            0..FEW_LABELS => 2,
-            FEW_LABELS..MANY_LABELS => 8,
-            _ => 16,
-        };
-        let farther = self.distance / parts + 1;
-        self.distance = self.distance.saturating_add(farther);
-    }
+pub(crate) struct Goals {
+    pub(crate) reached: u64,
+    pub(crate) best: u64,
+    pub(crate) labels: u64,
 }
 
 /// What becomes of the root after a sweep.
@@ -78,31 +55,51 @@ fn close_swept<D: Desk>(
     }
 }
 
-// Places the groups of an uncut plan that a sweep found: it is a better plan, or there are new cuts. Where
-// there is neither, the next sweep would find the same.
+// Places the groups of an uncut plan that a sweep found: it is a better plan, or there are new cuts; whether
+// there is either.
 fn place<D: Desk>(
     desk: &D,
     hand: &mut D::Hand,
     memory: &mut Memory,
     held: &InHand<'_>,
     plan: UncutPlan,
-) -> Result<AfterSweep, D::Stop>
+) -> Result<bool, D::Stop>
     requires serves { D.serves desk.now hand.old }
     requires node { IsNodeOf (D.instance desk.now) held.now.node.now }
     ensures serves { D.serves desk.now hand.new }
-    ensures ends { Ends (D.holds desk.now held.now) (D.freed desk.now) hand.old hand.new (was_ended result) }
+    ensures holds { Stays (D.holds desk.now held.now) hand.old hand.new }
 {
     let found = desk.place(hand, memory, held, plan)?;
-    let is_empty = found.is_empty();
+    let is_new = !found.is_empty();
     carry_out(desk, hand, held, found)?;
-    if is_empty {
-        Ok(AfterSweep::Open)
-    } else {
+    Ok(is_new)
+}
+
+// What becomes of the held root once the uncut plan of a cost that was swept is placed: where it is the best
+// plan, that closes it. Where nothing was new, the next sweep would find the same.
+fn end_placed<D: Desk>(
+    desk: &D,
+    hand: &mut D::Hand,
+    held: &InHand<'_>,
+    prices: &Prices,
+    swept: &Swept<'_>,
+    is_new: bool,
+) -> Result<AfterSweep, D::Stop>
+    requires serves { D.serves desk.now hand.old }
+    ensures serves { D.serves desk.now hand.new }
+    ensures ends { Ends (D.holds desk.now held.now) (D.freed desk.now) hand.old hand.new (was_ended result) }
+{
+    if desk.best_cost(hand, held) == swept.cost() {
+        return close_swept(desk, hand, held, prices, swept);
+    }
+    if is_new {
         Ok(AfterSweep::Again)
+    } else {
+        Ok(AfterSweep::Open)
     }
 }
 
-// Sweeps the next goal, and carries out what that shows.
+// Sweeps the best cost, and carries out what that shows.
 fn sweep_once<D: Desk>(
     desk: &D,
     hand: &mut D::Hand,
@@ -117,25 +114,21 @@ fn sweep_once<D: Desk>(
     ensures ends { Ends (D.holds desk.now held.now) (D.freed desk.now) hand.old hand.new (was_ended result) }
 {
     desk.learn(hand, pricing, held)?;
-    let best = desk.best_cost(hand, held);
-    let goal = goals.next(best);
+    goals.best = desk.best_cost(hand, held);
     let prices = pricing.ascent.best().copy();
-    let outcome = pricing.sweep(desk.alloc(), desk.instance(), &prices, goal, goals.labels);
-    let Some(SweepOutcome { end, labels }) = outcome else {
-        return Ok(AfterSweep::Open);
-    };
-    match end {
-        SweepEnd::Swept(swept) if goal == best => close_swept(desk, hand, held, &prices, &swept),
-        SweepEnd::Swept(_) => {
-            goals.rise(labels);
-            Ok(AfterSweep::Again)
+    match pricing.sweep(desk.alloc(), desk.instance(), &prices, goals) {
+        None => Ok(AfterSweep::Open),
+        Some(SweepEnd::Swept(swept)) => close_swept(desk, hand, held, &prices, &swept),
+        Some(SweepEnd::Cheaper { plan, swept }) => {
+            goals.reached = swept.cost();
+            let is_new = place(desk, hand, memory, held, plan)?;
+            end_placed(desk, hand, held, &prices, &swept, is_new)
         }
-        SweepEnd::Cheaper(plan) => place(desk, hand, memory, held, plan),
     }
 }
 
 /// Sweeps costs from what the root reaches by its best prices up to the best cost, which closes it, as
-/// far as labels are left and no sweep takes more than so many; whether it was closed.
+/// far as labels are left and no cost takes more than so many; whether it was closed.
 pub(crate) fn sweep_root<D: Desk>(
     desk: &D,
     hand: &mut D::Hand,
@@ -150,8 +143,8 @@ pub(crate) fn sweep_root<D: Desk>(
     ensures ends { Ends (D.holds desk.now held.now) (D.freed desk.now) hand.old hand.new (was_closed result) }
 {
     let mut goals = Goals {
-        reached: reached_by(pricing.ascent.best_sum()),
-        distance: 1,
+        reached: pricing.reached(),
+        best: 0,
         labels,
     };
     for _ in 0..MOST_SWEEPS {

@@ -46,7 +46,7 @@ pub record IsCheaper (asked : SweepAsked) (plan : UncutPlan) : Type 0 where
   pub cost : flow_over asked.instance.now (lines_of plan) ≡ plan.cost
   pub below : plan.cost < asked.goal
 
--- How the sweep ended: the goal that was asked is swept, or an uncut plan costs less.
+-- How the sweep ended: the goal that was asked is swept, or an uncut plan costs less, and its cost is swept.
 abbrev pub IsSweepEnd : SweepAsked → SweepEnd → Type 0
 IsSweepEnd asked (Swept swept) = swept ≡ record { instance = asked.instance.now; cuts = asked.cuts.now; cost = asked.goal }
-IsSweepEnd asked (Cheaper plan) = IsCheaper asked plan
+IsSweepEnd asked (Cheaper plan swept) = IsCheaper asked plan × (swept ≡ record { instance = asked.instance.now; cuts = asked.cuts.now; cost = plan.cost })

@@ -6,12 +6,14 @@ use lock_model::Instance;
 use price_groups::LineCase;
 use price_terms::{ChamberCut, Prices};
 
-/// An instance, cuts, prices that help speed alone, and a cost in minutes that is to be swept.
+/// An instance, cuts, prices that help speed alone, and a cost in minutes that is to be swept. Costs are swept
+/// one after the other, from a first one on that helps speed alone too: where prices reach it.
 #[derive(Drop)]
 pub struct SweepAsked<'a> {
     pub instance: &'a Instance,
     pub cuts: &'a [ChamberCut],
     pub prices: &'a Prices,
+    pub first: u64,
     pub goal: u64,
 }
 
@@ -37,8 +39,10 @@ impl<'a> SweepAsked<'a> {
 /// How much a sweep may take.
 #[derive(Clone, Copy)]
 pub struct SweepLimits {
-    /// The greatest number of labels.
+    /// The greatest number of labels for one cost.
     pub labels: usize,
+    /// The greatest number of labels for all costs together.
+    pub all: u64,
     /// The greatest number of groups that are grown for a chamber and a way at once.
     pub groups: usize,
     /// The greatest number of turns for the value of a state of a chamber.

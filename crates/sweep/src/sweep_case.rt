@@ -6,14 +6,13 @@ use lock_model::Instance;
 use price_terms::{ChamberCut, Prices};
 use sweep_labels::{Arrivals, ShipSet};
 
-/// An instance, cuts and prices, the ships that the chambers wait for, and the greatest number of labels.
+/// An instance, cuts and prices, and the ships that the chambers wait for.
 #[derive(Drop)]
 pub(crate) struct SweepCase<'a> {
     pub(crate) instance: &'a Instance,
     pub(crate) cuts: &'a [ChamberCut],
     pub(crate) prices: &'a Prices,
     pub(crate) arrivals: Vec<Arrivals>,
-    pub(crate) most: usize,
     pub(crate) ghost level: { length arrivals.items ≡ length instance.now.chambers },
 }
 

@@ -1,6 +1,7 @@
 //! A sweep in work.
 ghost use Rattle.std.specs.Prelude.{ℕ, ◌≡◌, ◌<◌, false, length, slice_index_or, IfOk, OnOk};
 ghost use Rattle.sweep_rules.specs.Treated.{IsTreated};
+ghost use Rattle.sweep_rules.specs.Uncut.{IsSwept};
 ghost use Rattle.sweep_labels.specs.Ships.{is_in};
 ghost use Rattle.sweep_labels.specs.Putting.{open_at};
 ghost use Rattle.sweep_labels.specs.Sweeping.{labels_of};
@@ -17,17 +18,19 @@ use crate::sums::less;
 use crate::sweep_case::SweepCase;
 use lock_model::Way;
 use price_terms::PriceError;
+use std::alloc::Global;
 use sweep_arcs::{ArcsAsked, Lane};
 use sweep_labels::{Arc, KeptLabel, Label, Made, Queue, Step, are_closed, first_label, gone_on};
 
-/// The chambers, the labels that were made and what is to be swept, those that are open, and how far arcs
-/// are listed.
+/// The chambers, the labels that were made and what is to be swept, those that are open, how far arcs are
+/// listed, and the greatest number of labels.
 #[derive(Drop)]
 pub(crate) struct Sweeper<'s, 'a> {
     pub(crate) lanes: &'s mut [Lane<'a>],
     pub(crate) made: Made,
     pub(crate) queue: Queue,
     pub(crate) spread: i64,
+    pub(crate) most: usize,
 }
 
 // The arcs of a chamber that are asked for.
@@ -63,7 +66,7 @@ impl Sweeper<'_, '_> {
         ensures further { OnOk result (IsFurther case.now self.old self.new) }
         ensures met { OnOk result (IsMetBy case.now self.new.made (label_of kept.label)) }
     {
-        if self.made.labels.items.len() >= case.most {
+        if self.made.labels.items.len() >= self.most {
             return Err(PriceError::TooMany);
         }
         let whole = case.first_missing(&kept.label.served).is_none();
@@ -280,8 +283,8 @@ impl Sweeper<'_, '_> {
         Ok(())
     }
 
-    /// Goes on from all labels. In the end none is open: else the sweep isn't done.
-    pub(crate) fn run(&mut self, case: &SweepCase) -> Result<(), PriceError>
+    // Goes on from all labels. In the end none is open: else the sweep isn't done.
+    fn run(&mut self, case: &SweepCase) -> Result<(), PriceError>
         requires { IsSound case.now self.old }
         ensures further { OnOk result (IsFurther case.now self.old self.new) }
         ensures closed { OnOk result ((k : ℕ) → open_at self.new.made.labels.are_open.items k ≡ false) }
@@ -294,9 +297,9 @@ impl Sweeper<'_, '_> {
         }
     }
 
-    /// Begins with the label that serves nobody.
+    // Begins with the label that serves nobody.
     #[tactic(auto, using(crate::proofs::GrownLemmas::sound_same, crate::proofs::GrownLemmas::further_same, crate::proofs::GrownLemmas::further_more))]
-    pub(crate) fn begin(&mut self, case: &SweepCase) -> Result<(), PriceError>
+    fn begin(&mut self, case: &SweepCase) -> Result<(), PriceError>
         requires { IsSound case.now self.old }
         ensures further { OnOk result (IsFurther case.now self.old self.new) }
         ensures begun { OnOk result (IsBegun case.now self.new.made) }
@@ -312,6 +315,33 @@ impl Sweeper<'_, '_> {
             start: 0,
         };
         self.keep(case, kept)?;
+        Ok(())
+    }
+
+    // Forgets all labels, and takes a cost that is to be swept. What is kept of the chambers stays.
+    fn restart(&mut self, alloc: Global, case: &SweepCase, goal: u64) -> Result<(), PriceError>
+        requires { IsSound case.now self.old }
+        ensures { OnOk result (IsSound case.now self.new) }
+    {
+        self.made = Made::new(alloc, goal)?;
+        self.queue = Queue::new(alloc);
+        Ok(())
+    }
+
+    /// Sweeps a cost: in the end the goal is swept, which is the cost, or that of a plan that was found.
+    pub(crate) fn sweep(
+        &mut self,
+        alloc: Global,
+        case: &SweepCase,
+        goal: u64,
+    ) -> Result<(), PriceError>
+        requires { IsSound case.now self.old }
+        ensures sound { OnOk result (IsSound case.now self.new) }
+        ensures swept { OnOk result (IsSwept case.now.instance.now (cuts_of case.now) self.new.made.goal) }
+    {
+        self.restart(alloc, case, goal)?;
+        self.begin(case)?;
+        self.run(case)?;
         Ok(())
     }
 }

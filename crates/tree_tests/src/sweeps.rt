@@ -11,6 +11,7 @@ use worked_locks::{chamber, one_chamber, pair, ship, two_ships};
 // Enough for all rows.
 const ENOUGH: SweepLimits = SweepLimits {
     labels: 1_000,
+    all: 1_000,
     groups: 100,
     turns: 1_000_000,
 };
@@ -19,7 +20,7 @@ const ENOUGH: SweepLimits = SweepLimits {
 fn cost_of(outcome: &SweepOutcome) -> Option<u64> {
     match &outcome.end {
         SweepEnd::Swept(_) => None,
-        SweepEnd::Cheaper(plan) => Some(plan.cost),
+        SweepEnd::Cheaper { plan, .. } => Some(plan.cost),
     }
 }
 
@@ -35,6 +36,7 @@ fn cheaper(
         instance,
         cuts,
         prices: &prices,
+        first: goal,
         goal,
     };
     let outcome = sweep(alloc, &asked, ENOUGH).map_err(|_| "refused")?;
@@ -192,6 +194,7 @@ fn by_prices(
         instance: &instance,
         cuts: &[],
         prices: &prices,
+        first: goal,
         goal,
     };
     let outcome = sweep(alloc, &asked, ENOUGH).map_err(|_| "refused")?;
