@@ -3,8 +3,8 @@
 use price_terms::Limits;
 use sweep::SweepLimits;
 
-// The most labels of a sweep: six times those that one sweep of a search may make, so that what a search
-// has swept is swept here too.
+// The most labels of a sweep, which is of one cost: six times those that a search may make for one, so that
+// what a search has swept is swept here too.
 const LABELS: usize = 4_000_000;
 
 // The most groups of one chamber and way that a sweep grows at once: as many as in a search.

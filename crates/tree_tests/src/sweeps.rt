@@ -16,19 +16,21 @@ const ENOUGH: SweepLimits = SweepLimits {
     turns: 1_000_000,
 };
 
-// The cost of an uncut plan that a sweep has found; None where the goal is swept.
+// The cost of an uncut plan that a sweep has found, which is swept; None where the goal is swept.
 fn cost_of(outcome: &SweepOutcome) -> Option<u64> {
     match &outcome.end {
         SweepEnd::Swept(_) => None,
-        SweepEnd::Cheaper { plan, .. } => Some(plan.cost),
+        SweepEnd::Cheaper { plan, swept } => Some(plan.cost.max(swept.cost())),
     }
 }
 
-// The cost of an uncut plan that costs less than a goal; None where the goal is swept.
+// The cost of an uncut plan that costs less than a goal, where costs rise from a first one; None where the goal
+// is swept.
 fn cheaper(
     alloc: Global,
     instance: &Instance,
     cuts: &[ChamberCut],
+    first: u64,
     goal: u64,
 ) -> Result<Option<u64>, Fail> {
     let prices = Prices::new(&[]).ok_or("no prices")?;
@@ -36,7 +38,7 @@ fn cheaper(
         instance,
         cuts,
         prices: &prices,
-        first: goal,
+        first,
         goal,
     };
     let outcome = sweep(alloc, &asked, ENOUGH).map_err(|_| "refused")?;
@@ -53,12 +55,16 @@ fn check(
 ) -> Result<(), Fail> {
     let instance = instance.ok_or("no instance")?;
     for goal in [0, 1, least.saturating_sub(1), least] {
-        let found = cheaper(alloc, &instance, cuts, goal)?;
-        assert!(rt; found.is_none());
+        for first in [0, goal] {
+            let found = cheaper(alloc, &instance, cuts, first, goal)?;
+            assert!(rt; found.is_none());
+        }
     }
     for goal in [least.saturating_add(1), least.saturating_add(2), 1_000] {
-        let found = cheaper(alloc, &instance, cuts, goal)?;
-        assert!(rt; found == Some(least));
+        for first in [0, goal] {
+            let found = cheaper(alloc, &instance, cuts, first, goal)?;
+            assert!(rt; found == Some(least));
+        }
     }
     Ok(())
 }
