@@ -4,7 +4,8 @@
 //! hand, with which each node below begins. At a node a search makes rounds (`Pricing::round`). A round
 //! works out the least loose lines by the prices of the node, asks the placers about their groups, and
 //! raises the prices. At the first node that prices can serve, mostly the root, many rounds are made
-//! (`FirstNode`), at any other few.
+//! (`FirstNode`), at any other few. Where the root has too many groups, the placers are asked about some that
+//! crowd, once, so that cuts leave fewer.
 //!
 //! `price` makes the rounds of a node in hand, and carries out what they find: it posts the new cuts, gives
 //! the plan to the book, and closes the node where prices reach the best cost. Where they don't at the root,
@@ -38,6 +39,7 @@ mod offers;
 mod placing;
 mod pricing;
 mod round;
+mod seeding;
 mod sweeping;
 
 pub use carrying::price;

@@ -162,7 +162,8 @@ fn ascent_of(alloc: Global, prices: &Prices, pace: Pace) -> Result<Box<Ascent>, 
 
 /// The prices of the nodes on the way from the root to the one in hand, those that are raised at the
 /// node in hand, how soon the first node is left, the first cuts of the book, how many further ascents at
-/// the root, rounds and labels of sweeps may be made still, and least lines that are kept from call to call.
+/// the root, rounds and labels of sweeps may be made still, whether cuts may be looked for before there are
+/// lines, and least lines that are kept from call to call.
 #[derive(Drop)]
 pub struct Pricing {
     pub(crate) path: Vec<Offer>,
@@ -170,6 +171,7 @@ pub struct Pricing {
     pub(crate) first: FirstNode,
     pub(crate) ascents: u32,
     pub(crate) left: u32,
+    pub(crate) may_seed: bool,
     pub(crate) labels: u64,
     pub(crate) is_first: bool,
     pub(crate) from: u8,
@@ -195,6 +197,7 @@ impl Pricing {
             first,
             ascents: first.more_ascents(),
             left: MOST_ROUNDS,
+            may_seed: true,
             labels,
             is_first: true,
             from: 0,
@@ -308,6 +311,7 @@ impl Pricing {
             first: self.first,
             ascents: 0,
             left: MOST_ROUNDS,
+            may_seed: false,
             labels: self.labels,
             is_first: self.is_first,
             from: self.from,

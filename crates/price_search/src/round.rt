@@ -5,6 +5,7 @@ ghost use Rattle.master_branch.specs.Node.{IsNodeOf};
 use crate::found::Found;
 use crate::placing::Placer;
 use crate::pricing::Pricing;
+use crate::seeding::seed_cuts;
 use lock_model::{CHAMBERS, Group, Instance};
 use master_branch::{Node, arrival_order};
 use near_plan::{fits, near_plan};
@@ -161,8 +162,8 @@ impl Pricing {
     }
 
     /// Makes a round at a node to which the pricing went, and which has the book's first cuts. The node
-    /// is asked for no more where the sets of ships or the states are too many (`LIMITS`), or all rounds
-    /// of the search were made. Its only refusal is want of memory.
+    /// is asked for no more where the sets of ships or the states are too many (`LIMITS`) and no cut is
+    /// found that makes them fewer, or all rounds of the search were made. Its only refusal is want of memory.
     pub fn round<K: KnownCuts>(
         &mut self,
         alloc: Global,
@@ -177,15 +178,49 @@ impl Pricing {
         }
         self.left -= 1;
         match self.least(asked)? {
-            Least::TooMany => {
-                self.from = asked.node.depth().saturating_add(1);
-                Ok(round_of(alloc, RoundEnd::Open))
-            }
+            Least::TooMany => self.past_too_many(alloc, asked, memory),
             Least::Lines(lines) if !is_reached(lines.sum, asked.best) => {
                 self.go_on(alloc, asked, memory, &lines)
             }
             _ => Ok(round_of(alloc, RoundEnd::Reached(self.ascent.tried().copy()))),
         }
+    }
+
+    // The first time that the root has too many groups, those that don't fit are looked for.
+    fn seeded<K: KnownCuts>(
+        &mut self,
+        alloc: Global,
+        asked: &Asked<'_, K>,
+        memory: &mut Memory,
+    ) -> Result<Found, NoMemory> {
+        let mut placer = Placer::new(alloc, asked, memory);
+        if self.may_seed && asked.node.depth() == 0 {
+            self.may_seed = false;
+            seed_cuts(asked.search.instance, &mut placer)?;
+        }
+        Ok(Found {
+            cuts: placer.found,
+            plan: None,
+        })
+    }
+
+    // Goes on from a node that has too many groups: with new cuts there may be few enough; else the node
+    // is asked for no more, nor others of its depth.
+    fn past_too_many<K: KnownCuts>(
+        &mut self,
+        alloc: Global,
+        asked: &Asked<'_, K>,
+        memory: &mut Memory,
+    ) -> Result<Round, NoMemory> {
+        let found = self.seeded(alloc, asked, memory)?;
+        if found.is_empty() {
+            self.from = asked.node.depth().saturating_add(1);
+            return Ok(round_of(alloc, RoundEnd::Open));
+        }
+        Ok(Round {
+            found,
+            end: RoundEnd::Again,
+        })
     }
 
     // The least lines of the node by the prices that are tried.
