@@ -45,15 +45,6 @@ const FIRST_PACE: Pace = Pace {
     from_best: 0,
 };
 
-const BRIEF_PACE: Pace = Pace {
-    steps: 60,
-    kept: 3,
-    patience: 8,
-    span: 10,
-    spans: 5,
-    from_best: 0,
-};
-
 // Most of the last direction is kept: where a line serves the cheapest ship again and again, prices come
 // near the best ones only so. The span is longer than the patience, so that a going back counts in it.
 const STEADY_PACE: Pace = Pace {
@@ -101,8 +92,6 @@ const PACE: Pace = Pace {
 pub enum FirstNode {
     /// Late: the better its prices, the fewer nodes are below it.
     Long,
-    /// Sooner: others wait for it.
-    Brief,
     /// Last, and by prices that turn slowly: chambers take few ships at a time.
     Steady,
     /// Not before prices hardly rise: there are many ships.
@@ -114,7 +103,6 @@ impl FirstNode {
     fn pace(self) -> Pace {
         match self {
             FirstNode::Long => FIRST_PACE,
-            FirstNode::Brief => BRIEF_PACE,
             FirstNode::Steady => STEADY_PACE,
             FirstNode::Lasting => LASTING_PACE,
         }
@@ -125,7 +113,7 @@ impl FirstNode {
     fn plans_each_round(self) -> bool {
         match self {
             FirstNode::Lasting => true,
-            FirstNode::Long | FirstNode::Brief | FirstNode::Steady => false,
+            FirstNode::Long | FirstNode::Steady => false,
         }
     }
 
@@ -133,7 +121,7 @@ impl FirstNode {
     // time, a third one gains little; a table of many ships takes too long.
     fn more_ascents(self) -> u32 {
         match self {
-            FirstNode::Long | FirstNode::Brief => MORE_ASCENTS,
+            FirstNode::Long => MORE_ASCENTS,
             FirstNode::Steady => MORE_ASCENTS - 1,
             FirstNode::Lasting => 0,
         }

@@ -30,13 +30,13 @@ use std::mem;
 use std::sync::Wait;
 use std::thread::Threads;
 
-// An instance that isn't solved after so many nodes, or after this part of the budget, is hard.
+// An instance that isn't solved after so many nodes is hard. A budget of no more is searched without prices
+// to its end.
 const FIRST_NODES: u32 = 1_000;
 
+// Of a few ships this part of the budget tells it too. With many ships, all that follows takes so much longer
+// from a worse plan that no node is spared.
 const FIRST_PART: u32 = 10;
-
-// A budget of no more nodes than this is searched without prices to its end.
-const SMALL_BUDGET: u32 = 1_000;
 
 // Where chambers take no more ships at a time, lines serve the cheapest ones again and again, and
 // rounds cost little.
@@ -50,10 +50,17 @@ const LABELS_A_NODE_OF_LARGE: u64 = 1_000;
 
 const MOST_LABELS: u64 = 2_000_000;
 
-/// How many nodes of a case are searched before it is told whether it is hard: all of a small budget.
-pub(crate) fn first_nodes(case: &Case) -> u32 {
-    if case.nodes <= SMALL_BUDGET {
+/// Whether the budget of a case is searched without prices to its end.
+pub(crate) fn has_small_budget(case: &Case) -> bool {
+    case.nodes <= FIRST_NODES
+}
+
+// How many nodes of a case are searched before it is told whether it is hard: all of a small budget.
+fn first_nodes(case: &Case) -> u32 {
+    if has_small_budget(case) {
         u32::MAX
+    } else if case.instance.is_large() {
+        FIRST_NODES
     } else {
         FIRST_NODES.min(case.nodes / FIRST_PART)
     }
@@ -107,15 +114,12 @@ fn takes_few(instance: &Instance) -> bool {
     true
 }
 
-// How the first node is priced for so many workers. Two, or those of several chambers, are slower where
-// it has worse prices, since more nodes are below it. So is a large instance with any number.
-fn first_node(case: &Case, workers: u8) -> FirstNode {
+// How the first node is priced, by however many workers: it is mostly closed by what one thread finds there.
+fn first_node(case: &Case) -> FirstNode {
     if case.instance.is_large() {
         FirstNode::Lasting
     } else if takes_few(&case.instance) {
         FirstNode::Steady
-    } else if workers > 2 && case.instance.chambers.as_slice().len() == 1 {
-        FirstNode::Brief
     } else {
         FirstNode::Long
     }
@@ -184,7 +188,7 @@ fn priced<R: Threads + Wait + Sync, G: Gate + Sync>(
     ensures ready { IfOk result (λ end. IsReady lent.now.case.now cost end.value) }
     ensures search { driver.new.search ≡ driver.old.search }
 {
-    let first = first_node(lent.case, lent.workers);
+    let first = first_node(lent.case);
     begin_pricing(driver, &*book, first);
     let is_done = drive_some(driver, &mut *book, 1)?;
     driver.keep_root();
@@ -197,8 +201,9 @@ fn priced<R: Threads + Wait + Sync, G: Gate + Sync>(
     Ok(book)
 }
 
-// Searches a book without prices for its first nodes. An instance that isn't solved by then begins again,
-// with prices, the best plan and the cuts that were found.
+// Searches a book without prices for its first nodes, on this thread, so that prices begin with the same plan
+// and cuts whatever the number of workers. An instance that isn't solved by then begins again, with prices, the
+// best plan and the cuts that were found.
 #[inline(never)]
 #[tactic(auto, using(crate::proofs::ReadyLemmas::ready_driven, crate::proofs::ReadyLemmas::ready_again, crate::proofs::DrivenLemmas::own_still))]
 fn begun<R: Threads + Wait + Sync, G: Gate + Sync>(

@@ -1,14 +1,14 @@
 //! The search of a case by workers in threads, and its end.
 //!
-//! `solve_from` opens a book with a legal plan and given cuts (`opening`), lets 1 to `WORKERS` workers search
-//! it (`searching`), and takes it back. Of the book that comes back only its type is known, so the
-//! caller tests that it is the one it opened, and opens a fresh one where a test fails (`settling`,
-//! `comparing`). Then it drives the search to its end on its own thread, so what the contract says
-//! rests on no worker. `solve` does so from the plan of `first_plan` and no cuts.
+//! `solve_from` opens a book with a legal plan and given cuts (`opening`). Where the budget is small, it lets
+//! 1 to `WORKERS` workers search it (`searching`), and takes it back. Of the book that comes back only its
+//! type is known, so the caller tests that it is the one it opened, and opens a fresh one where a test fails
+//! (`settling`, `comparing`). Then it drives the search to its end on its own thread, so what the contract
+//! says rests on no worker. `solve` does so from the plan of `first_plan` and no cuts.
 //!
-//! An instance that isn't solved after some nodes is hard: its search begins again, with prices
-//! (`hardness`), unless the budget is small. Several workers search that book too, once the root is
-//! priced, and the caller drives on what they leave.
+//! With a larger budget the caller searches the first nodes alone, as one worker does. An instance that isn't
+//! solved by then is hard: its search begins again, with prices (`hardness`). Once the root is priced, several
+//! workers search that book, and the caller drives on what they leave.
 //!
 //! - Workers: `crew` deals out what each owns and gathers it again, `running` starts them in threads,
 //!   or runs one on the caller's where none can be made, and waits for all. `search_worker` is the

@@ -4,7 +4,6 @@ ghost use Rattle.lock_model.specs.declared.limits.TheConstants.{WORKERS};
 ghost use Rattle.boxcar.specs.Table.{Shows};
 
 use crate::crew::{deal, gather};
-use crate::hardness::first_nodes;
 use crate::running::{Running, run_all};
 use book_core::{Book, Case};
 use bound_word::{BoundSeat, BoundTable};
@@ -42,16 +41,6 @@ fn post_cuts<W: Wait>(rt: &W, pool: &Pool, book: &Book) {
             }
             None => return,
         }
-    }
-}
-
-// After how many nodes each of so many workers ends: those that have prices search to the end.
-fn quota(case: &Case, workers: u8, board: Option<&Board>) -> u32
-    requires { 1 ≤ workers }
-{
-    match board {
-        Some(_) => u32::MAX,
-        None => first_nodes(case) / workers as u32,
     }
 }
 
@@ -151,7 +140,7 @@ fn searched_in<L: Ledger + Send + Sync, R: Threads + Wait + Sync, G: Gate + Sync
         gate: lent.gate,
         search: Search::new(&case.instance, case.turns),
         order: arrival_order(&case.instance),
-        quota: quota(case, workers, board),
+        quota: u32::MAX,
         board,
         book: &shared,
         pool: &pool,

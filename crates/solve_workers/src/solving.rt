@@ -7,7 +7,7 @@ ghost use Rattle.book_rules.specs.Cover.{IsOwnCut};
 ghost use Rattle.book_rules.specs.Ends.{EndsWell};
 
 use crate::cut_list::CutList;
-use crate::hardness::driven;
+use crate::hardness::{driven, has_small_budget};
 use crate::opening::opened;
 use crate::searching::{Lent, worked};
 use crate::settling::settled;
@@ -40,6 +40,18 @@ fn opening_plan(alloc: Global, case: &Case) -> Result<Box<Plan>, NoMemory>
         },
         Err(FirstError::NoMemory) => Err(NoMemory),
         Err(FirstError::Unfit(_)) => unreachable!(),
+    }
+}
+
+// What the workers leave of a book whose budget is searched without prices to its end; any other as it is.
+fn worked_if_small<R: Threads + Wait + Sync, G: Gate + Sync>(
+    lent: &Lent<'_, R, G>,
+    book: Box<Book>,
+) -> Result<Box<Book>, NoMemory> {
+    if has_small_budget(lent.case) {
+        worked(lent, book, None)
+    } else {
+        Ok(book)
     }
 }
 
@@ -94,7 +106,7 @@ pub fn solve_from<R: Threads + Wait + Sync, G: Gate + Sync>(
         case,
         workers,
     };
-    let left = worked(&lent, first, None)?;
+    let left = worked_if_small(&lent, first)?;
     let book = settled(alloc, left, case, cost, plan, &cuts)?;
     let book = driven(&lent, book, cost)?;
     Ok(Solved { book })

@@ -19,7 +19,9 @@ const FIRST_ALONE: &str =
 // For how many looks a gate holds a worker at the most.
 const LOOKS: u64 = 10_000_000;
 
-const WORDS: [&str; 3] = ["solve", "--workers", "2"];
+// Workers share the first nodes of a budget that is searched without prices; those of a larger one are one
+// thread's.
+const WORDS: [&str; 5] = ["solve", "--nodes", "1000", "--workers", "2"];
 
 // A run that serves all on one thread leaves the gate alone.
 #[test]
@@ -43,7 +45,7 @@ fn a_worker_of_a_run_reads_the_best_cost_of_another(rt: HostRuntime) -> Result<(
 #[test]
 fn two_workers_meet_when_the_rest_is_planned(rt: HostRuntime) -> Result<(), Fail> {
     let gate = MeetGate::new(Stage::Taking, LOOKS);
-    let words = ["replan", "--from", "0", "--workers", "2"];
+    let words = ["replan", "--from", "0", "--nodes", "1000", "--workers", "2"];
     let ran = run_past(
         &rt,
         rt.alloc(),
@@ -65,7 +67,7 @@ fn two_workers_meet_in_a_resumed_search(rt: HostRuntime) -> Result<(), Fail> {
         EQUAL.as_bytes(),
     )?;
     let gate = MeetGate::new(Stage::Taking, LOOKS);
-    let words = ["resume", "--workers", "2"];
+    let words = ["resume", "--nodes", "1000", "--workers", "2"];
     let ran = run_past(&rt, rt.alloc(), &words, kept.text.as_slice(), LARGE, &gate)?;
     assert!(rt; gate.met() && ran.text.as_slice().starts_with(b"optimal cost 155\n"));
     Ok(())
