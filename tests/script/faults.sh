@@ -94,7 +94,7 @@ faulty_instance() {
 rows faulty_instance <<'ROWS'
 4s/alva/\xff/ | line 4 fault 1 NotUtf8 | this line holds a byte that is no text
 1s/1/4/ | line 1 fault 2 NoHeader | "glock 4" stands where `glock 1` must stand, or `glock 2` where there are closures or cargo classes, or `glock 3` where there are more than 24 ships.
-1s/^/\xef\xbb\xbf/ | line 1 fault 2 NoHeader | the file begins with a hidden mark
+1s/^/# \n\xef\xbb\xbf/ | line 2 fault 2 NoHeader | this line begins with a hidden mark of three bytes
 4s/ship/boat/ | line 4 fault 3 Word | no line may begin with "boat" here; lines begin with chamber, ship,
 4s/ship/Ship/ | line 4 fault 3 Word | "Ship" must be written in small letters: ship
 1s/.*/plan/ | line 1 fault 2 NoHeader | this is a plan; the file with the chambers and the ships is wanted, and no plan.
@@ -165,7 +165,7 @@ rows faulty_plan <<'ROWS'
 2s/plan/legal cost 270/ | plan line 2 fault 2 NoMark | this is a report, of which no plan could be made
 2s/plan/glock 1/ | plan line 2 fault 2 NoMark | here the chambers and the ships come a second time
 2s/plan/Plan/ | plan line 2 fault 2 NoMark | "Plan" must be written in small letters: plan.
-2s/^/\xef\xbb\xbf/ | plan line 2 fault 2 NoMark | the file begins with a hidden mark of three bytes
+2s/^/\xef\xbb\xbf/ | plan line 2 fault 2 NoMark | this line begins with a hidden mark of three bytes
 2s/plan/lockage main up 0/ | plan line 2 fault 2 NoMark | "lockage" stands where the line `plan` must stand
 4s/berth/ship/ | plan line 4 fault 3 Word | no line may begin with "ship" here; lines begin with lockage, berth or end.
 4s/\*/quay/ | plan line 4 fault 7 Unknown | "quay" is no ship; write * for the quay.
