@@ -79,8 +79,7 @@ rows I axis ps = flat_map (row_of I axis ps) (order_of I)
 unfoldable pub ships_table : Instance → Drawn → List Passage → ℕ → List ℕ
 ships_table I axis ps cost =
     filled (codes "<table class=\"t\" aria-label=\"ships by time\">\n<thead><tr><th scope=\"col\">ship") [] ++ plural (length I.ships)
-    ++ filled (codes "</th><th scope=\"col\" class=\"v\">arrives</th><th scope=\"col\" class=\"v\">waits</th><th scope=\"col\" class=\"v\">starts</th>") []
-    ++ filled (codes "<th scope=\"col\" class=\"v\">ends</th><th scope=\"col\">lockage</th><td class=\"ax\">") [] ++ axis_head axis.present
+    ++ filled (codes "</th><th scope=\"col\" class=\"v\">arrives</th><th scope=\"col\" class=\"v\">waits</th><th scope=\"col\" class=\"v\">starts</th><th scope=\"col\" class=\"v\">ends</th><th scope=\"col\">lockage</th><td class=\"ax\">") [] ++ axis_head axis.present
     ++ filled (codes "</td><th scope=\"col\" class=\"r\">flow time</th></tr></thead>\n<tbody class=\"s\">\n") []
     ++ rows I axis ps ++ filled (codes "<tr class=\"f\"><th scope=\"row\">total</th><td colspan=\"6\"></td><td class=\"r\">") [] ++ decimal cost
     ++ filled (codes "</td></tr>\n</tbody>\n</table>\n") []

@@ -231,12 +231,7 @@ pub(crate) fn put_ships(
     put_plural(out, instance.ships.as_slice().len() as u64)?;
     put_form(
         out,
-        b"</th><th scope=\"col\" class=\"v\">arrives</th><th scope=\"col\" class=\"v\">waits</th><th scope=\"col\" class=\"v\">starts</th>",
-        &[],
-    )?;
-    put_form(
-        out,
-        b"<th scope=\"col\" class=\"v\">ends</th><th scope=\"col\">lockage</th><td class=\"ax\">",
+        b"</th><th scope=\"col\" class=\"v\">arrives</th><th scope=\"col\" class=\"v\">waits</th><th scope=\"col\" class=\"v\">starts</th><th scope=\"col\" class=\"v\">ends</th><th scope=\"col\">lockage</th><td class=\"ax\">",
         &[],
     )?;
     put_axis(out, axis)?;
