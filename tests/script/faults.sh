@@ -59,6 +59,9 @@ solve evening.lock --now 5 | --now isn't for solve
 picture evening.lock evening.plan --now 1000001 | --now takes a whole number from 0 to 1,000,000, and not "1000001"
 picture evening.lock evening.plan --clock 17:00 --now 08:00 | and not "08:00"; minute 0 is 17:00, and a time of the next day is written +1 08:00
 picture evening.lock evening.plan --from 5 | --from isn't for picture; picture takes --now, -o, --clock
+picture evening.lock evening.plan --title | --title needs a text after it, and may stand once
+picture evening.lock evening.plan --title=a --title b | --title needs a text after it, and may stand once
+solve evening.lock --title=a | --title is for picture, and not for solve
 solve evening.lock --drop gull | --drop is for replan, and not for solve
 judge --plan-text | --plan-text is for replan, and not for judge
 lot -o | -o needs the name of a file

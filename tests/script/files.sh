@@ -60,8 +60,12 @@ drawn() {
 rows drawn <<'ROWS'
 two.dossier | 0 | <h1>optimal, total flow time 120 minutes</h1>
 two.dossier --clock 06:00 | 0 | <p class="sub">from 06:00 to
-evening.lock evening.plan --now 19:30 --clock 17:00 | 0 | <g><title>lockage 3 down, begun, from 19:00 to 19:35: dina</title>
+evening.lock evening.plan --now 19:30 --clock 17:00 | 0 | <a href="#l3"><title>lockage 3 down, begun, from 19:00 to 19:35: dina</title>
 evening.lock evening.plan --now=150 | 0 | y="9">now 150</text>
+two.dossier | 0 | <p class="sub"><b>two.dossier, 20
+evening.lock evening.plan | 0 | <title>evening.lock, evening.plan, 20
+evening.lock evening.plan --title=Tuesday&<\1> | 0 | <title>Tuesday&amp;&lt;\1&gt;: legal, total flow time 270 minutes</title>
+evening.lock evening.plan --title=Tuesday | 0 | <p class="sub"><b>Tuesday</b></p>
 two.open | 0 | <h1>open, total flow time 506 minutes; no plan takes less than 280 minutes</h1>
 cheap.dossier | 7 | rejected cost reason 2 CostWrong | cheap.dossier: rejected at cost: its plan does not cost what the dossier says.
 typo.dossier | 7 | dossier fault 1 Instance line 3 fault 5 Number | typo.dossier:3: fault 5 Number: "11oo" stands for the length
@@ -110,6 +114,12 @@ err=$("$top/glock" lower 2>&1 </dev/zero)
 check "a device without end on standard input" holds "$err" "standard input is a device, which need not end"
 out=$("$top/glock" check 2>"$room/err" </dev/null)
 check "an empty device" holds "$out" "dossier fault 1 Instance"
+
+# But for its title a page is the program's.
+untitled() { sed '/^<p class="sub"><b>Tuesday<\/b><\/p>$/d; s/^<title>Tuesday: /<title>glock: /' "$room/out" | cmp -s - "$room/program.html"; }
+cat "$room/evening.lock" "$room/evening.plan" | "$GLOCK_PICTURE" picture >"$room/program.html"
+call picture evening.lock evening.plan --title Tuesday
+check "the page but for its title" untitled
 
 # A pipe in the place of a file is read once.
 call solve <(cat "$room/evening.lock")
