@@ -48,6 +48,6 @@ stack_is_enough() {
   lot=$("$program" lot --number 1 --ships 96 --chambers 2) || return 1
   answer=$(ulimit -s 320 && "$program" solve --nodes 2000 --workers 8 <<<"$lot") && status=0 || status=$?
   [ $status = 0 ] && [[ $answer = "optimal cost "* ]] || return 1
-  (ulimit -s 256 && cat examples/evening.lock examples/evening.plan | "$program" judge >/dev/null) &&
-    (ulimit -s 256 && cat examples/evening.lock examples/evening.plan | "$program" play >/dev/null)
+  (ulimit -s 128 && cat examples/evening.lock examples/evening.plan | "$program" judge >/dev/null) &&
+    (ulimit -s 128 && cat examples/evening.lock examples/evening.plan | "$program" play >/dev/null)
 }

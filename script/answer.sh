@@ -43,6 +43,8 @@ give_answer() {
     answer=$room/new.plan
   elif [ -n "$clock" ]; then
     show_times_of_day
+  elif [ "$command" = picture ]; then
+    title_page
   fi
   if [ -n "$output" ] && is_what_was_asked; then
     write_output && is_written=true || fail_to_write "$output"

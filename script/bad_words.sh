@@ -27,6 +27,7 @@ check_option() {
     -o | --output) refuse "-o needs the name of a file after it, and may stand once"; return ;;
     --clock) check_clock "${1#--clock}" "${2-}"; return ;;
     --seconds) check_seconds "${1#--seconds}" "${2-}"; return ;;
+    --title) check_title; return ;;
     --progress) check_progress; return ;;
     --drop | --plan-text) check_replan_word "$name"; return ;;
     --*) ;;
@@ -122,6 +123,14 @@ check_seconds() {
     refuse "--seconds and --nodes can't stand together"
   else
     refuse "--seconds may stand once"
+  fi
+}
+
+check_title() {
+  if [ "$command" = picture ]; then
+    refuse "--title needs a text after it, and may stand once"
+  else
+    refuse "--title is for picture, and not for ${command:-this}"
   fi
 }
 

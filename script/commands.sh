@@ -43,6 +43,7 @@ own_options_of() {
   echo "-o"
   if takes_clock "$1"; then echo "--clock"; fi
   if takes_seconds "$1"; then echo "--seconds"; fi
+  if [ "$1" = picture ]; then echo "--title"; fi
   if searches "$1"; then echo "--progress"; fi
   if [ "$1" = replan ]; then echo "--drop --plan-text"; fi
 }

@@ -12,7 +12,7 @@ explain_answer() {
     3) explain_refused "$first" ;;
     4) say_at "$subject" "read fault: $first_name could not be read to its end" ;;
     5) say_at "$subject" "write fault: not all of the answer could be written to $not_written" ;;
-    6) say_at "$subject" "no memory: this machine has too little free memory for the work; close other programs$(fewer_nodes)" ;;
+    6) say_at "$subject" "no memory: this machine has too little free memory for the work; close other programs$(fewer_nodes)$(an_end)" ;;
     7) explain_dossier "$first" ;;
     8) explain_unfit "${parts[1]}" ;;
     10) explain_plan "$first" ;;
@@ -32,6 +32,9 @@ signal_of() {
 }
 
 fewer_nodes() { [[ " $(options_of "$command") " != *" --nodes "* ]] || printf ', or give fewer --nodes'; }
+
+# of a source that isn't known to end
+an_end() { reads_dossier "$command" && { [ -z "$input" ] || $goes_on; } && printf ', and see that what %s reads comes to an end' "$command"; }
 
 # A file was asked for and another text came than its options may let one expect.
 explain_good() {

@@ -5,7 +5,7 @@ explain_dossier() {
     "dossier fault 1 "*)
       explain_line instance "${parts[5]}" "${parts[7]}" "${parts[8]}"
       # Of a pipe the script keeps no dossier to look at.
-      [ -n "$input" ] || [ "${parts[8]}" != NoHeader ] || say "perhaps what stands before this command in the pipe made no dossier"
+      [ -n "$input" ] || [ "${parts[8]}" != NoHeader ] || say "perhaps what stands before this command in the pipe made no dossier, or one that begins with a byte order mark"
       ;;
     "dossier fault 4 "*) say_at "$first_name" "fault 4 Shape: $(sentence_of "shape ${parts[5]}")" ;;
     "dossier fault "*)

@@ -1,8 +1,8 @@
 # What the program reads: a file, two files joined, or standard input.
 
-# more bytes than any instance with its plan may have; and the most bytes of a file that is joined to another one where
-# the program reads all
-most_kept=131073
+# more bytes than any instance with its plan and a byte order mark may have; and the most bytes of a file that is joined
+# to another one where the program reads all
+most_kept=131076
 most_joined=16777216
 
 # sets input, the file that the program reads, or nothing for standard input itself; goes_on, whether standard input
@@ -21,7 +21,7 @@ take_input() {
     [ -r "$file" ] || { say "$file can't be read: no permission"; return 66; }
   done
   case ${#files[@]} in
-    0) wait_for_keyboard && keep_standard_input ;;
+    0) wait_for_keyboard; refuse_device && keep_standard_input ;;
     1) take_file ;;
     2) join_files ;;
   esac || return
@@ -45,11 +45,23 @@ take_file() {
   first_name=${files[0]}
   if [ -f "$first_name" ]; then
     input=$first_name
+    if begins_with_mark "$input"; then drop_mark "$input" >"$room/unmarked" && input=$room/unmarked; fi
   else
     exec <"$first_name"
-    keep_standard_input
+    refuse_device && keep_standard_input
   fi
 }
+
+# A dossier may be as long as it likes, so one from a device such as /dev/zero would be read until memory is gone.
+refuse_device() {
+  reads_dossier "$command" && [ -c /dev/stdin ] && [ ! -t 0 ] && ! [ /dev/stdin -ef /dev/null ] || return 0
+  say "$first_name is a device, which need not end; a dossier is read from a file or a pipe"
+  return 66
+}
+
+# A byte order mark, which some editors write at the beginning of a file, is no part of a text.
+begins_with_mark() { [ "$(head -c 3 -- "$1" | tr -d '\0')" = $'\xef\xbb\xbf' ]; }
+drop_mark() { tail -c +4 -- "$1"; }
 
 # The second file begins on a line of its own, also where the first doesn't end with a line feed.
 join_files() {
@@ -65,11 +77,11 @@ name_of() { if [ "$1" = - ]; then echo "standard input"; else echo "$1"; fi; }
 
 # Appends a file to the input. What is over the program's limit is left out; a program that has none gets all or nothing.
 join_file() {
-  local before most=$most_kept
-  before=$(wc -c <"$input")
+  local most=$most_kept
   if reads_dossier "$command" || has_certificate "$1"; then most=$((most_joined + 1)); fi
-  if [ "$1" = - ]; then head -c $most; else head -c $most "$1"; fi >>"$input"
-  if reads_dossier "$command" && [ $(($(wc -c <"$input") - before)) -eq $most ]; then
+  if [ "$1" = - ]; then head -c $most; else head -c $most "$1"; fi >"$room/part"
+  if begins_with_mark "$room/part"; then drop_mark "$room/part"; else cat "$room/part"; fi >>"$input"
+  if reads_dossier "$command" && [ "$(wc -c <"$room/part")" -eq $most ]; then
     say "$(name_of "$1") has more than $most_joined bytes; join the two files and give one"
     return 66
   fi
@@ -85,6 +97,7 @@ keep_standard_input() {
   reads_instance "$command" && [ -z "$wrong" ] || return 0
   if head -c $most_kept >"$room/kept" 2>/dev/null || room_is_full; then input=$room/kept; fi
   if [ -n "$input" ] && reads_dossier "$command" && [ "$(wc -c <"$input")" -eq $most_kept ]; then goes_on=true; fi
+  if [ -n "$input" ] && begins_with_mark "$input"; then drop_mark "$input" >"$room/unmarked" && input=$room/unmarked; fi
 }
 
 # where a line of the input stands, as file:line

@@ -3,6 +3,9 @@
 # An installed copy has the file BUILD, which tells what was installed, and the programs beside it.
 is_installed() { [ -f "$top/BUILD" ]; }
 
+# whether what is installed here was proved
+has_proved_programs() { grep -q '^programs proved$' "$top/BUILD"; }
+
 # sets status_of_programs to proved, unproved or unbuilt, and program_files to the two programs
 look_at_programs() {
   local name kept

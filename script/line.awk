@@ -122,7 +122,7 @@ function no_instance() {
   return "\"" $1 (NF > 1 ? " " $2 : "") (NF > 2 ? " .." : "") "\" stands where `glock 1` must stand, or `glock 2` where there are closures or cargo classes, or `glock 3` where there are more than 24 ships."
 }
 
-function hidden_mark() { return "the file begins with a hidden mark of three bytes; save it as UTF-8 without a byte order mark." }
+function hidden_mark() { return "this line begins with a hidden mark of three bytes; save the file as UTF-8 without a byte order mark." }
 
 # where the plan must begin and something else does
 function no_plan() {

@@ -35,7 +35,7 @@ choose_program() {
   fi
   run=("$program")
   if is_installed; then
-    grep -q '^programs proved$' "$top/BUILD" || say "not the proved program: what is installed here was built by the kit's unproved run of commit $(commit)"
+    has_proved_programs || say "not the proved program: what is installed here was built by the kit's unproved run of commit $(commit)"
     return
   fi
   reason="the proved program isn't built yet"

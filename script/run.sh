@@ -7,6 +7,7 @@ unset GLOCK_PROGRESS
 # sets answer and status
 run_program() {
   answer=$room/answer
+  limit_memory
   # A program in the background has an empty standard input, unless it is given one: that of the script, by "<&0".
   if $goes_on; then
     exec < <(cat "$input" -)
@@ -29,6 +30,30 @@ run_program() {
   status=$?
   end_watch
   trap - INT TERM HUP
+}
+
+# A dossier may be as long as it likes. One that is too long for the memory that is free, or never ends, makes the program
+# say so, before the system ends it or another one.
+limit_memory() {
+  local free given
+  reads_dossier "$command" && ! has_address_checks || return 0
+  free=$(free_memory) given=$(ulimit -S -d)
+  [ -n "$free" ] && { [ "$given" = unlimited ] || [ "$given" -gt "$free" ]; } || return 0
+  ulimit -S -d "$free" 2>/dev/null
+}
+
+# An unproved program keeps a note of each address, for which it asks more than any machine has.
+has_address_checks() { is_unproved_run || [ "${run[0]%/*}" = "$kept_folder" ] || { is_installed && ! has_proved_programs; }; }
+
+# in KB: what the machine has free, and no more than what is left to the group of processes that the script is in
+free_memory() {
+  local most used free
+  free=$(awk '/^(MemAvailable|SwapFree):/ { free += $2 } END { if (free) print int(free * 15 / 16) }' /proc/meminfo 2>/dev/null)
+  if { read -r most </sys/fs/cgroup/memory.max && read -r used </sys/fs/cgroup/memory.current; } 2>/dev/null && [ "$most" != max ]; then
+    most=$(((most - used) / 1024 * 15 / 16))
+    if [ -z "$free" ] || [ "$most" -lt "$free" ]; then free=$most; fi
+  fi
+  echo "$free"
 }
 
 # The kit's run builds the program first, which is shown in their place.

@@ -1,9 +1,9 @@
 # The words of the command line: which are for the script, and which for the program.
 # A word that the script can't use goes to the program, which then answers that the words are bad.
 
-# sets command, program_words, files, output, clock, plan_clock, seconds, drops, as_plan_text, wants_progress and wants_help
+# sets command, program_words, files, output, clock, plan_clock, seconds, title, drops, as_plan_text, wants_progress and wants_help
 split_words() {
-  command= output= clock= seconds= as_plan_text=false wants_progress=false wants_help=false ended=false
+  command= output= clock= seconds= title= as_plan_text=false wants_progress=false wants_help=false ended=false
   program_words=() files=() drops=()
   while [ $# -gt 0 ]; do
     take_word "$@"
@@ -19,6 +19,10 @@ split_words() {
   if [ -n "$seconds" ] && ! may_take_seconds; then
     program_words+=(--seconds "$seconds")
     seconds=
+  fi
+  if [ -n "$title" ] && [ "$command" != picture ]; then
+    program_words+=(--title "$title")
+    title=
   fi
   if $wants_progress && ! searches "$command"; then program_words+=(--progress); fi
   # What `replan` alone takes, and a dossier is no plan.
@@ -93,6 +97,8 @@ take_word() {
     --clock=?*) [ -z "$clock" ] && clock=${1#*=} || program_words+=("$1") ;;
     --seconds) [ -z "$seconds" ] && take_text "$@" && seconds=$2 || program_words+=(--seconds) ;;
     --seconds=?*) [ -z "$seconds" ] && seconds=${1#*=} || program_words+=("$1") ;;
+    --title) [ -z "$title" ] && take_text "$@" && title=$2 || program_words+=(--title) ;;
+    --title=?*) [ -z "$title" ] && title=${1#*=} || program_words+=("$1") ;;
     --progress) if $wants_progress; then program_words+=("$1"); fi; wants_progress=true ;;
     --plan-text) if $as_plan_text; then program_words+=("$1"); fi; as_plan_text=true ;;
     --drop) take_text "$@" && drops+=("$2") || program_words+=("$1") ;;

@@ -59,6 +59,9 @@ solve evening.lock --now 5 | --now isn't for solve
 picture evening.lock evening.plan --now 1000001 | --now takes a whole number from 0 to 1,000,000, and not "1000001"
 picture evening.lock evening.plan --clock 17:00 --now 08:00 | and not "08:00"; minute 0 is 17:00, and a time of the next day is written +1 08:00
 picture evening.lock evening.plan --from 5 | --from isn't for picture; picture takes --now, -o, --clock
+picture evening.lock evening.plan --title | --title needs a text after it, and may stand once
+picture evening.lock evening.plan --title=a --title b | --title needs a text after it, and may stand once
+solve evening.lock --title=a | --title is for picture, and not for solve
 solve evening.lock --drop gull | --drop is for replan, and not for solve
 judge --plan-text | --plan-text is for replan, and not for judge
 lot -o | -o needs the name of a file
@@ -94,7 +97,7 @@ faulty_instance() {
 rows faulty_instance <<'ROWS'
 4s/alva/\xff/ | line 4 fault 1 NotUtf8 | this line holds a byte that is no text
 1s/1/4/ | line 1 fault 2 NoHeader | "glock 4" stands where `glock 1` must stand, or `glock 2` where there are closures or cargo classes, or `glock 3` where there are more than 24 ships.
-1s/^/\xef\xbb\xbf/ | line 1 fault 2 NoHeader | the file begins with a hidden mark
+1s/^/# \n\xef\xbb\xbf/ | line 2 fault 2 NoHeader | this line begins with a hidden mark of three bytes
 4s/ship/boat/ | line 4 fault 3 Word | no line may begin with "boat" here; lines begin with chamber, ship,
 4s/ship/Ship/ | line 4 fault 3 Word | "Ship" must be written in small letters: ship
 1s/.*/plan/ | line 1 fault 2 NoHeader | this is a plan; the file with the chambers and the ships is wanted, and no plan.
@@ -165,7 +168,7 @@ rows faulty_plan <<'ROWS'
 2s/plan/legal cost 270/ | plan line 2 fault 2 NoMark | this is a report, of which no plan could be made
 2s/plan/glock 1/ | plan line 2 fault 2 NoMark | here the chambers and the ships come a second time
 2s/plan/Plan/ | plan line 2 fault 2 NoMark | "Plan" must be written in small letters: plan.
-2s/^/\xef\xbb\xbf/ | plan line 2 fault 2 NoMark | the file begins with a hidden mark of three bytes
+2s/^/\xef\xbb\xbf/ | plan line 2 fault 2 NoMark | this line begins with a hidden mark of three bytes
 2s/plan/lockage main up 0/ | plan line 2 fault 2 NoMark | "lockage" stands where the line `plan` must stand
 4s/berth/ship/ | plan line 4 fault 3 Word | no line may begin with "ship" here; lines begin with lockage, berth or end.
 4s/\*/quay/ | plan line 4 fault 7 Unknown | "quay" is no ship; write * for the quay.

@@ -60,8 +60,12 @@ drawn() {
 rows drawn <<'ROWS'
 two.dossier | 0 | <h1>optimal, total flow time 120 minutes</h1>
 two.dossier --clock 06:00 | 0 | <p class="sub">from 06:00 to
-evening.lock evening.plan --now 19:30 --clock 17:00 | 0 | <g><title>lockage 3 down, begun, from 19:00 to 19:35: dina</title>
+evening.lock evening.plan --now 19:30 --clock 17:00 | 0 | <a href="#l3"><title>lockage 3 down, begun, from 19:00 to 19:35: dina</title>
 evening.lock evening.plan --now=150 | 0 | y="9">now 150</text>
+two.dossier | 0 | <p class="sub"><b>two.dossier, 20
+evening.lock evening.plan | 0 | <title>evening.lock, evening.plan, 20
+evening.lock evening.plan --title=Tuesday&<\1> | 0 | <title>Tuesday&amp;&lt;\1&gt;: legal, total flow time 270 minutes</title>
+evening.lock evening.plan --title=Tuesday | 0 | <p class="sub"><b>Tuesday</b></p>
 two.open | 0 | <h1>open, total flow time 506 minutes; no plan takes less than 280 minutes</h1>
 cheap.dossier | 7 | rejected cost reason 2 CostWrong | cheap.dossier: rejected at cost: its plan does not cost what the dossier says.
 typo.dossier | 7 | dossier fault 1 Instance line 3 fault 5 Number | typo.dossier:3: fault 5 Number: "11oo" stands for the length
@@ -69,6 +73,53 @@ ROWS
 long_dossier() { head -n 6 "$room/two.dossier"; head -c 140000 /dev/zero | tr '\0' ' '; tail -n 1 "$room/two.dossier"; }
 call picture <(long_dossier)
 check "the picture of a long dossier from a pipe" gives 0 "<h1>optimal, total flow time 120 minutes</h1>" ""
+
+# A byte order mark at the beginning of a file or a pipe is left out.
+for name in evening.lock evening.plan evening-early.plan two.dossier two.open; do
+  { printf '\xef\xbb\xbf'; cat "$room/$name"; } >"$room/marked-$name"
+done
+marked() {
+  call $1
+  check "with a byte order mark: $1" gives "$2" "$3" "${4-}"
+}
+rows marked <<'ROWS'
+solve marked-evening.lock | 0 | optimal cost 270
+judge evening.lock marked-evening.plan | 0 | legal cost 270
+judge marked-evening.lock marked-evening-early.plan | 10 | illegal lockage 3 Early | marked-evening-early.plan:7: lockage 3 Early
+check marked-two.dossier | 0 | accepted cost 120
+lower marked-two.open | 1 | lower 280 cost 506 | this plan costs 506
+picture marked-two.dossier | 0 | <h1>optimal, total flow time 120 minutes</h1>
+ROWS
+out=$("$top/glock" solve <"$room/marked-evening.lock" 2>"$room/err")
+check "a byte order mark on standard input" holds "$out" "optimal cost 270"
+err=$("$top/glock" check <"$room/marked-two.dossier" 2>&1 >"$room/out")
+check "a byte order mark before a dossier on standard input" holds "$err" "or one that begins with a byte order mark"
+{ printf '\xef\xbb\xbf'; cat "$room/evening.lock"; yes '# later' | head -c 131073; } >"$room/marked-long.lock"
+call solve marked-long.lock
+check "a byte order mark before too many bytes" gives 3 "too long 65536" "marked-long.lock: too long: marked-long.lock may have 65536 bytes at most"
+out=$(cd "$room" && cat marked-long.lock | "$top/glock" judge 2>&1)
+check "a byte order mark before too many bytes on standard input" holds "$out" "too long 131072"
+
+# A dossier may be as long as memory allows, and a source without end takes no more than that.
+printf '#!/usr/bin/env bash\nulimit -S -d\n' >"$room/limit" && chmod +x "$room/limit"
+out=$(GLOCK_PROGRAM=$room/limit "$top/glock" check "$room/two.dossier")
+check "the memory that is free bounds what a dossier takes" test "$out" -gt 0
+out=$(ulimit -S -d 200000; yes | GLOCK_PROGRAM=$room/limit "$top/glock" check)
+check "a bound that is there already stays" test "$out" = 200000
+err=$({ ulimit -S -d 200000; yes | "$top/glock" check; } 2>&1)
+check "a dossier without end" holds "$err" "and see that what check reads comes to an end"
+call check /dev/zero
+check "a device without end" gives 66 "" "/dev/zero is a device, which need not end; a dossier is read from a file or a pipe"
+err=$("$top/glock" lower 2>&1 </dev/zero)
+check "a device without end on standard input" holds "$err" "standard input is a device, which need not end"
+out=$("$top/glock" check 2>"$room/err" </dev/null)
+check "an empty device" holds "$out" "dossier fault 1 Instance"
+
+# But for its title a page is the program's.
+untitled() { sed '/^<p class="sub"><b>Tuesday<\/b><\/p>$/d; s/^<title>Tuesday: /<title>glock: /' "$room/out" | cmp -s - "$room/program.html"; }
+cat "$room/evening.lock" "$room/evening.plan" | "$GLOCK_PICTURE" picture >"$room/program.html"
+call picture evening.lock evening.plan --title Tuesday
+check "the page but for its title" untitled
 
 # A pipe in the place of a file is read once.
 call solve <(cat "$room/evening.lock")

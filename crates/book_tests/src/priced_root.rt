@@ -1,15 +1,15 @@
 //! The root of the narrow lock, which the cut of its two ships and their prices, or a sweep, close.
 ghost use Rattle.master_branch.specs.Node.{IsNodeOf};
 
-use crate::fixture::narrow;
+use crate::fixture::NARROW;
 use lock_model::Instance;
 use master_branch::{Node, root};
 use price_bound::{KeptLines, PricedNode, show};
 use price_terms::{ChamberCut, Limits, Prices, Shown, Swept};
 use std::alloc::Global;
 use std::test::Fail;
-use sweep::{SweepAsked, SweepEnd, SweepLimits, SweepOutcome, sweep};
-use worked_locks::pair;
+use sweep::{SweepAsked, SweepEnd, SweepLimits, sweep};
+use worked_locks::{pair, two_ships};
 
 const LIMITS: Limits = Limits {
     groups: 100,
@@ -24,56 +24,44 @@ const SWEEP_LIMITS: SweepLimits = SweepLimits {
 };
 
 /// So much for each of both ships.
-pub(crate) fn both_prices(price: u32) -> Result<Prices, Fail> {
-    Ok(Prices::new(&[price, price]).ok_or("no prices")?)
+pub(crate) fn both_prices(price: u32) -> Option<Prices> {
+    Prices::new(&[price, price])
 }
 
-// The cut of both ships.
-fn both_cut(alloc: Global) -> Result<Vec<ChamberCut>, Fail> {
-    let mut cuts = Vec::new(alloc);
-    cuts.push(ChamberCut {
-        chamber: 0,
-        ships: pair(0, 1),
-    })?;
-    Ok(cuts)
-}
-
-/// The root, 8,500 for each ship, and the cut.
+/// The root, 8,500 for each ship, and the cut of both.
 #[derive(Drop)]
 pub(crate) struct PricedRoot {
     instance: Instance,
     node: Node,
     prices: Prices,
-    cuts: Vec<ChamberCut>,
+    cuts: [ChamberCut; 1],
     ghost is: { IsNodeOf instance node },
 }
 
 impl PricedRoot {
-    pub(crate) fn new(alloc: Global) -> Result<PricedRoot, Fail> {
-        let cuts = both_cut(alloc)?;
+    pub(crate) fn new() -> Option<PricedRoot> {
         let prices = both_prices(8500)?;
-        let instance = narrow()?;
+        let instance = two_ships(NARROW)?;
         let node = root(&instance);
-        Ok(PricedRoot {
+        let both = ChamberCut {
+            chamber: 0,
+            ships: pair(0, 1),
+        };
+        Some(PricedRoot {
             instance,
             node,
             prices,
-            cuts,
+            cuts: [both],
         })
     }
 
-    /// That it reaches the cost of its best plan.
-    pub(crate) fn shown(&self, alloc: Global) -> Result<Shown<'_>, Fail> {
-        self.shown_at(alloc, 120)
-    }
-
     /// That it reaches this cost.
-    pub(crate) fn shown_at(&self, alloc: Global, cost: u64) -> Result<Shown<'_>, Fail> {
+    pub(crate) fn shown(&self, alloc: Global, cost: u64) -> Result<Shown<'_>, Fail> {
         let asked = PricedNode {
             instance: &self.instance,
             node: &self.node,
             prices: &self.prices,
-            cuts: self.cuts.as_slice(),
+            cuts: &self.cuts,
         };
         Ok(show(&mut KeptLines::new(alloc), &asked, cost, LIMITS)?.ok_or("not shown")?)
     }
@@ -82,13 +70,12 @@ impl PricedRoot {
     pub(crate) fn swept(&self, alloc: Global, cost: u64) -> Result<Swept<'_>, Fail> {
         let asked = SweepAsked {
             instance: &self.instance,
-            cuts: self.cuts.as_slice(),
+            cuts: &self.cuts,
             prices: &self.prices,
             first: cost,
             goal: cost,
         };
-        let SweepOutcome { end, .. } = sweep(alloc, &asked, SWEEP_LIMITS)?;
-        match end {
+        match sweep(alloc, &asked, SWEEP_LIMITS)?.end {
             SweepEnd::Swept(swept) => Ok(swept),
             SweepEnd::Cheaper { .. } => Err("not swept".into()),
         }

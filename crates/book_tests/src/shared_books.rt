@@ -1,7 +1,3 @@
 //! Books under a lock.
-mod ahead;
-mod asking;
 mod parts;
-mod shutting;
-mod table;
 mod threads;

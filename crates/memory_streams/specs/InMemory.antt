@@ -16,9 +16,3 @@ pub record Writing : Type 0 where
   pub fails : List ℕ
   pub calls : ℕ
   pub faults : ℕ
-
--- the bytes that are held, the most that are, and the faults
-pub record Filling : Type 0 where
-  pub held : List ℕ
-  pub room : ℕ
-  pub faults : ℕ

@@ -70,7 +70,7 @@ module _ (I : Instance) (P : Plan) (clock : Clock) where
   box_text b =
       box_title I clock b.begun (passage_in I (day_of I P) b.number b.lockage (lockage_at P b.lockage))
       ++ passage_box (lockage_at P b.lockage).way (b.left + 1) (box_width b.left b.right) 10 39
-      ++ begun_frame b.begun (b.left + 1) (box_width b.left b.right) ++ filled (codes "</g>") []
+      ++ begun_frame b.begun (b.left + 1) (box_width b.left b.right) ++ filled (codes "</a>") []
 
   -- with the line at a pixel
   abbrev pub row_picture_text : Option ℕ → Row → List ℕ

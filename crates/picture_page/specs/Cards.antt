@@ -28,7 +28,7 @@ use Rattle.picture_page.specs.declared.scales.DeckScale.{DeckScale}
 -- the number, the way and the chamber's name of a passage
 unfoldable pub head_words : List ℕ → Passage → List ℕ
 head_words name p =
-    filled (codes "<article class=\"card\"><h3><b>% ") (p.number ∷ []) ++ arrow p.way ++ filled (codes "</b><span>") [] ++ way_word p.way
+    filled (codes "<article class=\"card\" id=\"l%\"><h3><b>% ") (p.number ∷ p.number ∷ []) ++ arrow p.way ++ filled (codes "</b><span>") [] ++ way_word p.way
     ++ filled (codes " in <strong>") [] ++ name
 
 -- its times

@@ -21,9 +21,9 @@ use Rattle.picture_page.specs.Labels.{are_wide, labels, opens_label}
 
 -- the axis in the head of a table, with room for a flag above it where the page shows the minute that it is
 abbrev pub axis_head : Option ℕ → List ℕ
-axis_head None = codes "<svg width=\"812\" height=\"22\" aria-hidden=\"true\"><use href=\"#x\"/><use href=\"#A\"/></svg>"
+axis_head None = codes "<svg viewBox=\"0 0 812 22\" aria-hidden=\"true\"><use href=\"#x\"/><use href=\"#A\"/></svg>"
 axis_head (Some minute) =
-    codes "<svg width=\"812\" height=\"34\" aria-hidden=\"true\"><use href=\"#x\" y=\"12\"/><use href=\"#A\" y=\"12\"/><use href=\"#N\"/></svg>"
+    codes "<svg viewBox=\"0 0 812 34\" aria-hidden=\"true\"><use href=\"#x\" y=\"12\"/><use href=\"#A\" y=\"12\"/><use href=\"#N\"/></svg>"
 
 unfoldable pub closed_text : Clock → Closure → List ℕ
 closed_text clock k = codes ", closed" ++ span_text clock k.from k.to
@@ -36,7 +36,7 @@ lane_name c =
 -- what its picture shows, in a sentence, and the grid
 unfoldable pub lane_title : Clock → ℕ → Chamber → List ℕ
 lane_title clock count c =
-    filled (codes "<td><svg width=\"812\" height=\"44\" role=\"img\"><title>Chamber ") [] ++ c.name ++ filled (codes ": opens ") [] ++ time_text clock c.opens
+    filled (codes "<td class=\"ax\"><svg viewBox=\"0 0 812 44\" role=\"group\"><title>Chamber ") [] ++ c.name ++ filled (codes ": opens ") [] ++ time_text clock c.opens
     ++ filled (codes ", stands ") [] ++ stand_word c.stands ++ filled (codes " at first, ") [] ++ count_text count (codes "lockage")
     ++ flat_map (closed_text clock) c.closures ++ filled (codes "</title><use href=\"#G\"/>") []
 
@@ -61,7 +61,7 @@ begun_word false = []
 -- what a lockage is, in a sentence
 unfoldable pub box_title : Instance → Clock → Bool → Passage → List ℕ
 box_title I clock begun p =
-    filled (codes "<g><title>lockage % ") (p.number ∷ []) ++ way_word p.way ++ begun_word begun ++ span_text clock p.start (passage_end p)
+    filled (codes "<a href=\"#l%\"><title>lockage % ") (p.number ∷ p.number ∷ []) ++ way_word p.way ++ begun_word begun ++ span_text clock p.start (passage_end p)
     ++ filled (codes ": ") [] ++ names I p.ships ++ filled (codes "</title>") []
 
 -- the second outline in a lane of a lockage that has begun
@@ -75,7 +75,7 @@ lockage_box I axis p =
     box_title I axis.clock (has_begun axis.present p.start) p
     ++ passage_box p.way (x_of axis p.start + 1) (box_width (x_of axis p.start) (x_of axis (passage_end p))) 10 39
     ++ begun_frame (has_begun axis.present p.start) (x_of axis p.start + 1) (box_width (x_of axis p.start) (x_of axis (passage_end p)))
-    ++ filled (codes "</g>") []
+    ++ filled (codes "</a>") []
 
 -- the picture of a chamber with these passages, up to the breaks
 unfoldable pub lane_ground : Drawn → Chamber → List Passage → List ℕ
@@ -106,6 +106,6 @@ lanes I axis ps = flat_map (lane_at I axis ps) (range_with_len 0 (length I.chamb
 unfoldable pub chambers_table : Instance → Drawn → List Passage → List ℕ
 chambers_table I axis ps =
     filled (codes "<table class=\"t\" aria-label=\"chambers by time\">\n<thead><tr><th scope=\"col\">chamber") [] ++ plural (length I.chambers)
-    ++ filled (codes "</th><td>") [] ++ axis_head axis.present
+    ++ filled (codes "</th><td class=\"ax\">") [] ++ axis_head axis.present
     ++ filled (codes "</td><th scope=\"col\" class=\"r\">lockages</th></tr></thead>\n<tbody class=\"c\">\n") []
     ++ lanes I axis ps ++ filled (codes "</tbody>\n</table>\n") []

@@ -29,6 +29,12 @@ known_word Legal = codes "legal"
 known_word Optimal = codes "optimal"
 known_word (Open low) = codes "open"
 
+-- what that word means
+abbrev pub known_meaning : Known → List ℕ
+known_meaning Legal = codes "Legal: the plan keeps every rule of the lock. Whether another plan takes less is not said."
+known_meaning Optimal = codes "Optimal: the plan keeps every rule of the lock, and it is proved that no plan takes less."
+known_meaning (Open low) = codes "Open: the plan keeps every rule of the lock. Whether another plan takes less is not known."
+
 -- what no legal plan costs less than
 unfoldable pub low_words : ℕ → List ℕ
 low_words low = codes "; no plan takes less than " ++ count_text low (codes "minute")
@@ -79,8 +85,11 @@ span_word (Day offset) = codes "from "
 unfoldable pub event_span : Clock → List ℕ → List ℕ
 event_span clock events = span_word clock ++ time_text clock (least_of events) ++ codes " to " ++ time_text clock (greatest_of events)
 
+-- what is known of the plan, and what that means
 unfoldable pub heading : Known → ℕ → List ℕ
-heading known cost = filled (codes "<h1>") [] ++ verdict known cost ++ filled (codes "</h1>\n<p class=\"sub\">") []
+heading known cost =
+    filled (codes "<h1>") [] ++ verdict known cost ++ filled (codes "</h1>\n<p class=\"sub\">") [] ++ known_meaning known
+    ++ filled (codes " Flow time is from a ship&#8217;s arrival to the end of its lockage; flow times and waits are in minutes.</p>\n<p class=\"sub\">") []
 
 -- what a page of so many lockages shows
 unfoldable pub summary : Clock → Instance → ℕ → List ℕ → List ℕ
@@ -92,7 +101,7 @@ summary clock I lockages events =
 -- the timetable: chambers and ships along one axis
 unfoldable pub timetable : Instance → Drawn → List Passage → ℕ → List ℕ
 timetable I axis ps cost =
-    filled (codes "<div class=\"scroll\" tabindex=\"0\" role=\"region\" aria-label=\"timetable\">\n") [] ++ chambers_table I axis ps
+    filled (codes "<div role=\"region\" aria-label=\"timetable\">\n") [] ++ chambers_table I axis ps
     ++ ships_table I axis ps cost
     ++ filled (codes "</div>\n") [] ++ legend I axis
 

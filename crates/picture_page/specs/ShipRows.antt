@@ -5,17 +5,15 @@ use Rattle.lock_model.specs.Fleet.{ship_at, chamber_at}
 use Rattle.lock_model.specs.declared.instance.Instance.{Instance}
 use Rattle.lock_model.specs.declared.ship.Ship.{Ship}
 use Rattle.lock_rules.specs.Arrival.{order_of}
-use Rattle.instance_text.specs.Canonical.{way_word}
 use Rattle.picture_page.specs.Forms.{filled}
 use Rattle.picture_page.specs.Shapes.{arrow, cargo_mark, passage_box}
 use Rattle.picture_page.specs.Times.{time_text}
-use Rattle.picture_page.specs.Words.{plural, count_text}
+use Rattle.picture_page.specs.Words.{plural}
 use Rattle.picture_page.specs.declared.times.Clock.{Clock}
 use Rattle.picture_page.specs.Axis.{Drawn, x_of}
 use Rattle.picture_page.specs.Present.{present_x, present_line}
 use Rattle.picture_page.specs.Passages.{passage_end, digits_of, has}
 use Rattle.picture_page.specs.declared.passage.Passage.{Passage}
-use Rattle.picture_page.specs.Ground.{span_text}
 use Rattle.picture_page.specs.Labels.{stretch_of, stretch_middle}
 use Rattle.picture_page.specs.Lanes.{axis_head, box_width}
 use Rattle.picture_page.specs.declared.stretch.Stretch.{Stretch}
@@ -27,14 +25,18 @@ row_name s = filled (codes "<tr><th scope=\"row\">") [] ++ arrow s.way ++ s.name
 -- when it arrives, and how long it waits up to a minute
 unfoldable pub row_wait : Clock → Ship → ℕ → List ℕ
 row_wait clock s start =
-    filled (codes "<td><svg width=\"812\" height=\"16\" role=\"img\"><title>") [] ++ s.name ++ filled (codes ", ") [] ++ way_word s.way
-    ++ filled (codes ": arrives ") [] ++ time_text clock s.arrival ++ filled (codes ", waits ") [] ++ count_text (start - s.arrival) (codes "minute")
+    filled (codes "<td class=\"v\">") [] ++ time_text clock s.arrival ++ filled (codes "</td><td class=\"v\">") [] ++ decimal (start - s.arrival)
 
--- which passage it takes, in a chamber of this name
+-- from when to when
+unfoldable pub row_span : Clock → Passage → List ℕ
+row_span clock p =
+    filled (codes "</td><td class=\"v\">") [] ++ time_text clock p.start ++ filled (codes "</td><td class=\"v\">") [] ++ time_text clock (passage_end p)
+
+-- which passage it takes, in a chamber of this name, with a link to its deck, and the grid
 unfoldable pub row_passage : Clock → List ℕ → Passage → List ℕ
 row_passage clock name p =
-    filled (codes ", passes in lockage % of chamber ") (p.number ∷ []) ++ name ++ span_text clock p.start (passage_end p)
-    ++ filled (codes "</title><use href=\"#g\"/>") []
+    row_span clock p ++ filled (codes "</td><td><a href=\"#l%\">% ") (p.number ∷ p.number ∷ []) ++ name
+    ++ filled (codes "</a></td><td class=\"ax\"><svg viewBox=\"0 0 812 16\" aria-hidden=\"true\"><use href=\"#g\"/>") []
 
 -- the line of a wait between two pixels, where it has some
 unfoldable pub wait_line : ℕ → ℕ → List ℕ
@@ -77,7 +79,7 @@ rows I axis ps = flat_map (row_of I axis ps) (order_of I)
 unfoldable pub ships_table : Instance → Drawn → List Passage → ℕ → List ℕ
 ships_table I axis ps cost =
     filled (codes "<table class=\"t\" aria-label=\"ships by time\">\n<thead><tr><th scope=\"col\">ship") [] ++ plural (length I.ships)
-    ++ filled (codes "</th><td>") [] ++ axis_head axis.present
+    ++ filled (codes "</th><th scope=\"col\" class=\"v\">arrives</th><th scope=\"col\" class=\"v\">waits</th><th scope=\"col\" class=\"v\">starts</th><th scope=\"col\" class=\"v\">ends</th><th scope=\"col\">lockage</th><td class=\"ax\">") [] ++ axis_head axis.present
     ++ filled (codes "</td><th scope=\"col\" class=\"r\">flow time</th></tr></thead>\n<tbody class=\"s\">\n") []
-    ++ rows I axis ps ++ filled (codes "<tr class=\"f\"><th scope=\"row\">total</th><td></td><td class=\"r\">") [] ++ decimal cost
+    ++ rows I axis ps ++ filled (codes "<tr class=\"f\"><th scope=\"row\">total</th><td colspan=\"6\"></td><td class=\"r\">") [] ++ decimal cost
     ++ filled (codes "</td></tr>\n</tbody>\n</table>\n") []

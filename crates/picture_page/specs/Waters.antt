@@ -40,10 +40,11 @@ chamber_size c middle base =
     filled (codes "<text class=\"ft gy mi\" x=\"%\" y=\"%\">") (middle ∷ base ∷ []) ++ measures c.length c.width ++ filled (codes "</text>") []
 
 abbrev pub size_below : Chamber → ℕ → ℕ → List ℕ
-size_below c length base = if nat_lt length 500 then [] else (chamber_size c (96 + length / 2) base)
+size_below c length base = if nat_lt length 700 then [] else (chamber_size c (96 + length / 2) base)
 
--- the words below a deck so long, at a height
+-- the quays' names and the words below a deck so long, at a height
 unfoldable pub feet : Chamber → ℕ → ℕ → List ℕ
 feet c length base =
-    filled (codes "<text class=\"ft gy\" x=\"0\" y=\"%\">low</text><text class=\"ft gy en\" x=\"%\" y=\"%\">high</text>") (base ∷ (length + 192) ∷ base ∷ [])
+    filled (codes "<text class=\"ft gy qn\" x=\"96\" y=\"-14\">left quay</text><text class=\"ft gy qn\" x=\"132\" y=\"%\">right quay</text>") (base ∷ [])
+    ++ filled (codes "<text class=\"ft gy\" x=\"0\" y=\"%\">low</text><text class=\"ft gy en\" x=\"%\" y=\"%\">high</text>") (base ∷ (length + 192) ∷ base ∷ [])
     ++ size_below c length base

@@ -28,8 +28,8 @@ fn put_head_words(out: &mut Vec<u8>, name: &[u8], passage: &Passage) -> Result<(
 {
     put_form(
         out,
-        b"<article class=\"card\"><h3><b>% ",
-        &[passage.number as u64],
+        b"<article class=\"card\" id=\"l%\"><h3><b>% ",
+        &[passage.number as u64, passage.number as u64],
     )?;
     put_arrow(out, passage.way)?;
     put_between(out, b"</b><span>", way_word(passage.way), b" in <strong>")?;

@@ -1,6 +1,6 @@
 //! The head and the heading of a page.
 ghost use Rattle.std.specs.Prelude.{◌≡◌, ◌++◌, OnOk};
-ghost use Rattle.picture_page.specs.Page.{known_word, low_words, bound_words, verdict, page_head};
+ghost use Rattle.picture_page.specs.Page.{known_word, known_meaning, low_words, bound_words, verdict, page_head};
 ghost use Rattle.picture_page.specs.Page.{least_of, greatest_of, span_word, event_span, heading, summary};
 
 use crate::form::put_form;
@@ -30,6 +30,23 @@ fn known_word(known: Known) -> &'static [u8]
         Known::Legal => b"legal",
         Known::Optimal => b"optimal",
         Known::Open(_) => b"open",
+    }
+}
+
+/// What that word means.
+fn known_meaning(known: Known) -> &'static [u8]
+    ensures { result.now ≡ known_meaning known }
+{
+    match known {
+        Known::Legal => {
+            b"Legal: the plan keeps every rule of the lock. Whether another plan takes less is not said."
+        }
+        Known::Optimal => {
+            b"Optimal: the plan keeps every rule of the lock, and it is proved that no plan takes less."
+        }
+        Known::Open(_) => {
+            b"Open: the plan keeps every rule of the lock. Whether another plan takes less is not known."
+        }
     }
 }
 
@@ -125,14 +142,20 @@ fn put_event_span(out: &mut Vec<u8>, clock: Clock, events: &[u64]) -> Result<(),
     put_time(out, clock, greatest_of(events))
 }
 
-/// Appends the heading.
+/// Appends the heading: what is known of the plan, and what that means.
 #[tactic(auto, unfolding(crate::specs::Page::heading))]
 pub(crate) fn put_heading(out: &mut Vec<u8>, known: Known, cost: u64) -> Result<(), NoMemory>
     ensures { OnOk result (out.new.items ≡ out.old.items ++ heading known cost) }
 {
     put_form(out, b"<h1>", &[])?;
     put_verdict(out, known, cost)?;
-    put_form(out, b"</h1>\n<p class=\"sub\">", &[])
+    put_form(out, b"</h1>\n<p class=\"sub\">", &[])?;
+    put(out, known_meaning(known))?;
+    put_form(
+        out,
+        b" Flow time is from a ship&#8217;s arrival to the end of its lockage; flow times and waits are in minutes.</p>\n<p class=\"sub\">",
+        &[],
+    )
 }
 
 /// Appends what a page of so many lockages shows.

@@ -32,11 +32,11 @@ pub(crate) fn put_axis(out: &mut Vec<u8>, axis: &Axis) -> Result<(), NoMemory>
     match axis.present() {
         None => put(
             out,
-            b"<svg width=\"812\" height=\"22\" aria-hidden=\"true\"><use href=\"#x\"/><use href=\"#A\"/></svg>",
+            b"<svg viewBox=\"0 0 812 22\" aria-hidden=\"true\"><use href=\"#x\"/><use href=\"#A\"/></svg>",
         ),
         Some(_) => put(
             out,
-            b"<svg width=\"812\" height=\"34\" aria-hidden=\"true\"><use href=\"#x\" y=\"12\"/><use href=\"#A\" y=\"12\"/><use href=\"#N\"/></svg>",
+            b"<svg viewBox=\"0 0 812 34\" aria-hidden=\"true\"><use href=\"#x\" y=\"12\"/><use href=\"#A\" y=\"12\"/><use href=\"#N\"/></svg>",
         ),
     }
 }
@@ -76,7 +76,7 @@ fn put_lane_title(
 {
     put_between(
         out,
-        b"<td><svg width=\"812\" height=\"44\" role=\"img\"><title>Chamber ",
+        b"<td class=\"ax\"><svg viewBox=\"0 0 812 44\" role=\"group\"><title>Chamber ",
         chamber.name.as_slice(),
         b": opens ",
     )?;
@@ -153,7 +153,8 @@ fn put_box_title(
     requires { HasShips instance.now passage.now }
     ensures { OnOk result (out.new.items ≡ out.old.items ++ box_title instance.now clock begun passage.now) }
 {
-    put_form(out, b"<g><title>lockage % ", &[passage.number as u64])?;
+    let number = passage.number as u64;
+    put_form(out, b"<a href=\"#l%\"><title>lockage % ", &[number, number])?;
     put(out, way_word(passage.way))?;
     put_begun_word(out, begun)?;
     put_span(out, clock, passage.start as u64, passage.end())?;
@@ -192,7 +193,7 @@ fn put_box(
     put_box_title(out, instance, axis.clock(), begun, passage)?;
     put_passage_box(out, passage.way, from as u64 + 1, width, 10, 39)?;
     put_begun_frame(out, begun, from as u64 + 1, width)?;
-    put_form(out, b"</g>", &[])
+    put_form(out, b"</a>", &[])
 }
 
 /// Appends the boxes of lockages.
@@ -338,7 +339,7 @@ pub(crate) fn put_chambers(
         &[],
     )?;
     put_plural(out, instance.chambers.as_slice().len() as u64)?;
-    put_form(out, b"</th><td>", &[])?;
+    put_form(out, b"</th><td class=\"ax\">", &[])?;
     put_axis(out, axis)?;
     put_form(
         out,

@@ -41,7 +41,7 @@ fn put_timetable(
 {
     put_form(
         out,
-        b"<div class=\"scroll\" tabindex=\"0\" role=\"region\" aria-label=\"timetable\">\n",
+        b"<div role=\"region\" aria-label=\"timetable\">\n",
         &[],
     )?;
     put_chambers(alloc, out, instance, axis, passages)?;

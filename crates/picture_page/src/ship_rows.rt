@@ -1,19 +1,18 @@
 //! The rows of the ships.
 ghost use Rattle.std.specs.Prelude.{◌≡◌, ◌<◌, ◌++◌, length, All, OnOk};
 ghost use Rattle.picture_page.specs.KnownPassages.{HasChamber};
-ghost use Rattle.picture_page.specs.ShipRows.{row_name, row_wait, row_passage, wait_line, row_number, row_picture, row, row_among, rows, ships_table};
+ghost use Rattle.picture_page.specs.ShipRows.{row_name, row_wait, row_span, row_passage, wait_line, row_number, row_picture, row};
+ghost use Rattle.picture_page.specs.ShipRows.{row_among, rows, ships_table};
 
 use crate::axis::Axis;
-use crate::form::{put_between, put_form};
-use crate::ground::put_span;
+use crate::form::put_form;
 use crate::lanes::{box_width, put_axis};
 use crate::passage::Passage;
 use crate::present::put_present_line;
 use crate::shapes::{put_arrow, put_cargo, put_passage_box};
 use crate::stretch::{Stretch, stretch_of};
 use crate::times::{Clock, put_time};
-use crate::words::{put_count, put_plural};
-use instance_text::way_word;
+use crate::words::put_plural;
 use lock_model::{Instance, Ship};
 use master_branch::arrival_order;
 use no_memory::NoMemory;
@@ -36,20 +35,24 @@ fn put_row_name(out: &mut Vec<u8>, ship: &Ship) -> Result<(), NoMemory>
 fn put_row_wait(out: &mut Vec<u8>, clock: Clock, ship: &Ship, start: u32) -> Result<(), NoMemory>
     ensures { OnOk result (out.new.items ≡ out.old.items ++ row_wait clock ship.now start) }
 {
-    put_between(
-        out,
-        b"<td><svg width=\"812\" height=\"16\" role=\"img\"><title>",
-        ship.name.as_slice(),
-        b", ",
-    )?;
-    put(out, way_word(ship.way))?;
-    put_form(out, b": arrives ", &[])?;
+    put_form(out, b"<td class=\"v\">", &[])?;
     put_time(out, clock, ship.arrival as u64)?;
-    put_form(out, b", waits ", &[])?;
-    put_count(out, start.saturating_sub(ship.arrival) as u64, b"minute")
+    put_form(out, b"</td><td class=\"v\">", &[])?;
+    put_number(out, start.saturating_sub(ship.arrival) as u64)
 }
 
-/// Appends which passage a ship takes, in a chamber of this name.
+/// Appends from when to when a passage is.
+#[tactic(auto, unfolding(crate::specs::ShipRows::row_span))]
+fn put_row_span(out: &mut Vec<u8>, clock: Clock, passage: &Passage) -> Result<(), NoMemory>
+    ensures { OnOk result (out.new.items ≡ out.old.items ++ row_span clock passage.now) }
+{
+    put_form(out, b"</td><td class=\"v\">", &[])?;
+    put_time(out, clock, passage.start as u64)?;
+    put_form(out, b"</td><td class=\"v\">", &[])?;
+    put_time(out, clock, passage.end())
+}
+
+/// Appends which passage a ship takes, in a chamber of this name, with a link to its deck, and the grid.
 #[tactic(auto, unfolding(crate::specs::ShipRows::row_passage))]
 fn put_row_passage(
     out: &mut Vec<u8>,
@@ -59,14 +62,15 @@ fn put_row_passage(
 ) -> Result<(), NoMemory>
     ensures { OnOk result (out.new.items ≡ out.old.items ++ row_passage clock name.now passage.now) }
 {
+    let number = passage.number as u64;
+    put_row_span(out, clock, passage)?;
+    put_form(out, b"</td><td><a href=\"#l%\">% ", &[number, number])?;
+    put(out, name)?;
     put_form(
         out,
-        b", passes in lockage % of chamber ",
-        &[passage.number as u64],
-    )?;
-    put(out, name)?;
-    put_span(out, clock, passage.start as u64, passage.end())?;
-    put_form(out, b"</title><use href=\"#g\"/>", &[])
+        b"</a></td><td class=\"ax\"><svg viewBox=\"0 0 812 16\" aria-hidden=\"true\"><use href=\"#g\"/>",
+        &[],
+    )
 }
 
 /// Appends the line of a wait between two pixels, where it has some.
@@ -225,7 +229,11 @@ pub(crate) fn put_ships(
         &[],
     )?;
     put_plural(out, instance.ships.as_slice().len() as u64)?;
-    put_form(out, b"</th><td>", &[])?;
+    put_form(
+        out,
+        b"</th><th scope=\"col\" class=\"v\">arrives</th><th scope=\"col\" class=\"v\">waits</th><th scope=\"col\" class=\"v\">starts</th><th scope=\"col\" class=\"v\">ends</th><th scope=\"col\">lockage</th><td class=\"ax\">",
+        &[],
+    )?;
     put_axis(out, axis)?;
     put_form(
         out,
@@ -235,7 +243,7 @@ pub(crate) fn put_ships(
     put_rows(out, instance, axis, passages)?;
     put_form(
         out,
-        b"<tr class=\"f\"><th scope=\"row\">total</th><td></td><td class=\"r\">",
+        b"<tr class=\"f\"><th scope=\"row\">total</th><td colspan=\"6\"></td><td class=\"r\">",
         &[],
     )?;
     put_number(out, cost)?;

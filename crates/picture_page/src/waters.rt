@@ -111,13 +111,13 @@ fn put_size_below(
 ) -> Result<(), NoMemory>
     ensures { OnOk result (out.new.items ≡ out.old.items ++ size_below chamber.now length base) }
 {
-    if length < 500 {
+    if length < 700 {
         return Ok(());
     }
     put_chamber_size(out, chamber, 96 + length as u64 / 2, base)
 }
 
-/// Appends the words below a deck so long, at a height.
+/// Appends the quays' names and the words below a deck so long, at a height.
 #[tactic(auto, unfolding(crate::specs::Waters::feet))]
 pub(crate) fn put_feet(
     out: &mut Vec<u8>,
@@ -127,6 +127,11 @@ pub(crate) fn put_feet(
 ) -> Result<(), NoMemory>
     ensures { OnOk result (out.new.items ≡ out.old.items ++ feet chamber.now length base) }
 {
+    put_form(
+        out,
+        b"<text class=\"ft gy qn\" x=\"96\" y=\"-14\">left quay</text><text class=\"ft gy qn\" x=\"132\" y=\"%\">right quay</text>",
+        &[base],
+    )?;
     put_form(
         out,
         b"<text class=\"ft gy\" x=\"0\" y=\"%\">low</text><text class=\"ft gy en\" x=\"%\" y=\"%\">high</text>",

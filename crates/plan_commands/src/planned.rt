@@ -14,8 +14,8 @@ use plan_text::{BadPlan, break_text, fault_text, read_plan};
 use run_answers::{Answer, Status, defect_text, made, no_memory};
 use std::alloc::Global;
 
-// The first defect of the instance part.
-fn defect_answer(alloc: Global, bytes: &[u8], bad: Bad) -> Answer
+/// The first defect of the instance part.
+pub(crate) fn defect_answer(alloc: Global, bytes: &[u8], bad: Bad) -> Answer
     requires { Defect (instance_part bytes.now) bad.line bad.kind }
     ensures { AnswersIllegal bytes.now result.status (bytes_in result.text) }
 {
@@ -25,9 +25,9 @@ fn defect_answer(alloc: Global, bytes: &[u8], bad: Bad) -> Answer
     }
 }
 
-// The first fault of the plan text.
+/// The first fault of the plan text.
 #[tactic(auto, using(crate::proofs::AnswerLemmas::fault_refuses))]
-fn fault_answer(alloc: Global, bytes: &[u8], instance: &Instance, bad: BadPlan) -> Answer
+pub(crate) fn fault_answer(alloc: Global, bytes: &[u8], instance: &Instance, bad: BadPlan) -> Answer
     requires means { Means (instance_part bytes.now) instance.now }
     requires fault { IsPlanFault instance.now (after_instance bytes.now) bad.line bad.kind }
     ensures { AnswersIllegal bytes.now result.status (bytes_in result.text) }

@@ -64,8 +64,8 @@ fn read_words(
 
 /// What is wrong where no line `end` comes.
 #[tactic(auto, unfolding(crate::specs::Reading::without_end))]
-fn without_end(instance: &Instance, mut draft: Draft, lines: &Lines<'_>) -> BadPlan
-    ensures { without_end instance.now lines.now.number draft ≡ Err result }
+fn without_end(instance: &Instance, draft: &mut Draft, lines: &Lines<'_>) -> BadPlan
+    ensures { without_end instance.now lines.now.number draft.old ≡ Err result }
 {
     match draft.close(instance) {
         Ok(()) => bad_line(lines, PlanKind::NoEnd),
@@ -73,16 +73,15 @@ fn without_end(instance: &Instance, mut draft: Draft, lines: &Lines<'_>) -> BadP
     }
 }
 
-/// The plan of the lines from the line `plan` up to `end`.
-fn read_body(instance: &Instance, lines: &mut Lines<'_>) -> Result<Plan, BadPlan>
-    ensures read { IfOk result (λ plan. read_body instance.now lines.old.number no_draft (map words (lines_left lines.old)) ≡ read_rest lines.new.number plan.lockages (map words (lines_left lines.new))) }
-    ensures bad { IfErr result (λ b. read_body instance.now lines.old.number no_draft (map words (lines_left lines.old)) ≡ Err b) }
+/// Reads the lines from the line `plan` up to `end` into the draft.
+fn read_body(instance: &Instance, draft: &mut Draft, lines: &mut Lines<'_>) -> Result<(), BadPlan>
+    ensures read { OnOk result (read_body instance.now lines.old.number draft.old (map words (lines_left lines.old)) ≡ read_rest lines.new.number draft.new.lockages (map words (lines_left lines.new))) }
+    ensures bad { IfErr result (λ b. read_body instance.now lines.old.number draft.old (map words (lines_left lines.old)) ≡ Err b) }
 {
-    let mut draft = Draft::new();
     while let Some(line) = lines.next() {
-        match read_words(instance, lines.number(), &mut draft, line)? {
+        match read_words(instance, lines.number(), draft, line)? {
             Progress::More => {}
-            Progress::Ended => return Ok(draft.into_plan()),
+            Progress::Ended => return Ok(()),
         }
     }
     Err(without_end(instance, draft, lines))
@@ -107,9 +106,10 @@ fn read_text(instance: &Instance, bytes: &[u8]) -> Result<Plan, BadPlan>
     check_text(instance, bytes)?;
     let mut lines = Lines::new(bytes);
     read_mark(instance, &mut lines)?;
-    let plan = read_body(instance, &mut lines)?;
+    let mut draft = Draft::new();
+    read_body(instance, &mut draft, &mut lines)?;
     read_rest(&mut lines)?;
-    Ok(plan)
+    Ok(draft.into_plan())
 }
 
 /// The plan of a plan text, which stands in the bytes after the instance part. Answers the first

@@ -1,7 +1,8 @@
-//! Tests of the program: whole runs over sources and sinks in memory (`runs`), and what stands round
-//! it: gates, std's readers and writers that fail (`streams`), and plan texts, which no command prints.
+//! Tests of the program: whole runs over a source and a sink in memory whose workers meet or learn from
+//! one another (`runs`), and what stands round it: gates, and plan texts, which no command prints.
 //!
-//! The worked rows of whole runs are tried on the built program. The crate has no code but its tests.
+//! The worked rows of whole runs are tried on the built program, and so are reads and writes that fail; what
+//! a sink holds then is in the contract of `run`. The crate has no code but its tests.
 #![tactic(auto)]
 
 #[cfg(test)]
@@ -10,7 +11,3 @@ mod holding;
 mod plans;
 #[cfg(test)]
 mod runs;
-#[cfg(test)]
-mod streams;
-#[cfg(test)]
-mod worked;

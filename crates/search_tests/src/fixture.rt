@@ -18,16 +18,7 @@ pub(crate) fn case_of(instance: Instance, nodes: u32, turns: u32) -> Option<Case
     Some(Case::new(instance, nodes, turns))
 }
 
-/// The book of a case, opened with its singles plan.
-pub(crate) fn opened(alloc: Global, case: &Case) -> Result<Book, Fail> {
-    if first_unfit(&case.instance).is_some() {
-        return Err(Fail::from("an unfit ship"));
-    }
-    let plan = singles_plan(&case.instance);
-    Ok(open_book(alloc, case, plan)?)
-}
-
-/// The book of an instance, opened so, for so many nodes and turns.
+/// The book of an instance for so many nodes and turns, opened with its singles plan.
 pub(crate) fn open(
     alloc: Global,
     instance: Instance,
@@ -35,5 +26,9 @@ pub(crate) fn open(
     turns: u32,
 ) -> Result<Book, Fail> {
     let case = case_of(instance, nodes, turns).ok_or("no case")?;
-    opened(alloc, &case)
+    if first_unfit(&case.instance).is_some() {
+        return Err("an unfit ship".into());
+    }
+    let plan = singles_plan(&case.instance);
+    Ok(open_book(alloc, &case, plan)?)
 }

@@ -2,4 +2,3 @@
 mod driving;
 mod telling;
 mod threads;
-mod workers;

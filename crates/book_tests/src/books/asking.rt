@@ -1,8 +1,7 @@
-//! What books answer, as text.
+//! What books answer, in words and numbers.
 
 use crate::fixture::{both, one_after_the_other, row_cut};
 use crate::priced_root::{PricedRoot, both_prices};
-use crate::spent_decks::spent_both;
 use book_core::{Book, Refusal, Reply};
 use book_rules::SlotState;
 use closing_rules::Ground;
@@ -17,15 +16,13 @@ pub(crate) enum Ask {
     Split(u32),
     Close(u32, Ground),
     Release(u8),
-    /// The cut of both ships in a chamber of this width.
+    /// The cut of both ships in the narrow chamber, with this gap along.
     Post(u32),
-    /// The slot is parked at this group of a chamber, whose deck is that of both ships.
-    Park(u32, u8, u8),
     /// So much for each ship.
     Prices(u32),
-    /// The slot is closed by the prices of this number and this cost, which is swept in the narrow
-    /// chamber by the cut of both ships.
-    CloseSwept(u32, u64, u64),
+    /// The slot is closed by the first prices and this cost, which is swept in the narrow chamber by
+    /// the cut of both ships.
+    CloseSwept(u32, u64),
     /// The cost is shown of the slot by the prices of this number: the root of the narrow chamber
     /// reaches it by the cut of both ships.
     ShowLow(u32, u64, u64),
@@ -35,129 +32,114 @@ pub(crate) enum Ask {
     After(u32),
 }
 
-/// The reply of the book.
-pub(crate) fn reply_of(alloc: Global, book: &mut Book, ask: Ask) -> Result<Reply, Fail> {
-    Ok(match ask {
-        Ask::Take(worker) => book.take(worker.min(8)),
+/// A reply's word and its numbers; of a node the slot and the depth.
+pub(crate) type Told = (&'static str, u64, u64);
+
+fn closed_swept(alloc: Global, book: &mut Book, id: u32, cost: u64) -> Result<Reply, Fail> {
+    let root = PricedRoot::new().ok_or("no root")?;
+    let swept = root.swept(alloc, cost)?;
+    Ok(book.close_swept(id, 0, &swept))
+}
+
+fn shown_low(
+    alloc: Global,
+    book: &mut Book,
+    id: u32,
+    number: u64,
+    cost: u64,
+) -> Result<Reply, Fail> {
+    let root = PricedRoot::new().ok_or("no root")?;
+    let shown = root.shown(alloc, cost)?;
+    Ok(book.show_low(id, number, &shown))
+}
+
+fn posted(alloc: Global, book: &mut Book, gap: u32) -> Result<Reply, Fail> {
+    let cut = row_cut(alloc, gap)?;
+    Ok(book.post(cut))
+}
+
+fn priced(book: &mut Book, price: u32) -> Result<Reply, Fail> {
+    let prices = both_prices(price).ok_or("no prices")?;
+    Ok(book.post_prices(&prices))
+}
+
+// The reply to what takes nothing but numbers.
+fn plain_reply(book: &mut Book, ask: Ask) -> Reply {
+    match ask {
         Ask::Split(id) => book.split(id),
         Ask::Close(id, why) => book.close(id, why),
         Ask::Release(worker) => book.release(worker.min(8)),
-        Ask::Post(width) => book.post(row_cut(alloc, width)?),
-        Ask::Park(id, chamber, place) => {
-            let hard = spent_both(alloc, book)?;
-            book.park(id, chamber, place, &hard)
-        }
-        Ask::Prices(price) => book.post_prices(&both_prices(price)?),
-        Ask::CloseSwept(id, number, cost) => {
-            let root = PricedRoot::new(alloc)?;
-            book.close_swept(id, number, &root.swept(alloc, cost)?)
-        }
-        Ask::ShowLow(id, number, cost) => {
-            let root = PricedRoot::new(alloc)?;
-            book.show_low(id, number, &root.shown_at(alloc, cost)?)
-        }
-        Ask::Both => book.replace(both()),
+        Ask::Take(worker) => book.take(worker.min(8)),
         Ask::After(start) => book.replace(one_after_the_other(start)),
-    })
+        _ => book.replace(both()),
+    }
 }
 
-// An accepted event as text; of a node the depth alone.
-fn accepted_text(alloc: Global, reply: &Reply) -> Result<String, Fail> {
-    Ok(match reply {
-        Reply::Node(id, node) => format!(in alloc; "Node({id}, {})", node.depth())?,
-        Reply::Made(count) => format!(in alloc; "Made({count})")?,
-        Reply::Closed => format!(in alloc; "Closed")?,
-        Reply::LowShown => format!(in alloc; "LowShown")?,
-        Reply::Posted(number) => format!(in alloc; "Posted({number})")?,
-        Reply::Priced(number) => format!(in alloc; "Priced({number})")?,
-        Reply::Parked => format!(in alloc; "Parked")?,
-        Reply::Replaced(cost) => format!(in alloc; "Replaced({cost})")?,
-        Reply::Released(count) => format!(in alloc; "Released({count})")?,
-        _ => format!(in alloc; "another")?,
-    })
+fn reply_of(alloc: Global, book: &mut Book, ask: Ask) -> Result<Reply, Fail> {
+    match ask {
+        Ask::Post(gap) => posted(alloc, book, gap),
+        Ask::Prices(price) => priced(book, price),
+        Ask::CloseSwept(id, cost) => closed_swept(alloc, book, id, cost),
+        Ask::ShowLow(id, number, cost) => shown_low(alloc, book, id, number, cost),
+        _ => Ok(plain_reply(book, ask)),
+    }
 }
 
-// A refusal as text.
-fn refusal_text(alloc: Global, why: &Refusal) -> Result<String, Fail> {
-    Ok(match why {
-        Refusal::Ended(worker) => format!(in alloc; "Ended({worker})")?,
-        Refusal::Holds(id) => format!(in alloc; "Holds({id})")?,
-        Refusal::Idle => format!(in alloc; "Idle")?,
-        Refusal::Done => format!(in alloc; "Done")?,
-        Refusal::NotHeld(id) => format!(in alloc; "NotHeld({id})")?,
-        Refusal::Whole(id) => format!(in alloc; "Whole({id})")?,
-        Refusal::Cheaper(bound, best) => format!(in alloc; "Cheaper({bound}, {best})")?,
-        Refusal::NoHit(number) => format!(in alloc; "NoHit({number})")?,
-        Refusal::OtherDeck => format!(in alloc; "OtherDeck")?,
-        Refusal::NotLegal(_) => format!(in alloc; "NotLegal")?,
-        Refusal::NotCheaper(cost, best) => format!(in alloc; "NotCheaper({cost}, {best})")?,
-        Refusal::Absent(ship) => format!(in alloc; "Absent({ship})")?,
-        Refusal::NoPrices(number) => format!(in alloc; "NoPrices({number})")?,
-        Refusal::NotShown => format!(in alloc; "NotShown")?,
-        Refusal::NotRoot => format!(in alloc; "NotRoot")?,
-        Refusal::NotSwept => format!(in alloc; "NotSwept")?,
-        Refusal::Lower(cost, known) => format!(in alloc; "Lower({cost}, {known})")?,
-        _ => format!(in alloc; "another")?,
-    })
+fn told_refusal(why: &Refusal) -> Told {
+    match why {
+        Refusal::Ended(worker) => ("Ended", *worker as u64, 0),
+        Refusal::Holds(id) => ("Holds", *id as u64, 0),
+        Refusal::Idle => ("Idle", 0, 0),
+        Refusal::Done => ("Done", 0, 0),
+        Refusal::NotHeld(id) => ("NotHeld", *id as u64, 0),
+        Refusal::Whole(id) => ("Whole", *id as u64, 0),
+        Refusal::Cheaper(bound, best) => ("Cheaper", *bound, *best),
+        Refusal::NoHit(number) => ("NoHit", *number, 0),
+        Refusal::OtherDeck => ("OtherDeck", 0, 0),
+        Refusal::NotLegal(_) => ("NotLegal", 0, 0),
+        Refusal::NotCheaper(cost, best) => ("NotCheaper", *cost, *best),
+        Refusal::NoPrices(number) => ("NoPrices", *number, 0),
+        Refusal::NotShown => ("NotShown", 0, 0),
+        Refusal::NotRoot => ("NotRoot", 0, 0),
+        Refusal::NotSwept => ("NotSwept", 0, 0),
+        Refusal::Lower(cost, known) => ("Lower", *cost, *known),
+        _ => ("another", 0, 0),
+    }
 }
 
-// The reply as text.
-fn text_of(alloc: Global, reply: &Reply) -> Result<String, Fail> {
+fn told(reply: &Reply) -> Told {
     match reply {
-        Reply::Refused(why) => refusal_text(alloc, why),
-        _ => accepted_text(alloc, reply),
+        Reply::Node(id, node) => ("Node", *id as u64, node.depth() as u64),
+        Reply::Made(count) => ("Made", *count as u64, 0),
+        Reply::Closed => ("Closed", 0, 0),
+        Reply::LowShown => ("LowShown", 0, 0),
+        Reply::Posted(number) => ("Posted", *number, 0),
+        Reply::Priced(number) => ("Priced", *number, 0),
+        Reply::Replaced(cost) => ("Replaced", *cost, 0),
+        Reply::Released(count) => ("Released", *count as u64, 0),
+        Reply::Refused(why) => told_refusal(why),
+        _ => ("another", 0, 0),
     }
 }
 
-// The state of a slot as text.
-fn state_text(alloc: Global, state: SlotState) -> Result<String, Fail> {
-    Ok(match state {
-        SlotState::Fresh => format!(in alloc; "Fresh")?,
-        SlotState::Held(worker) => format!(in alloc; "Held({worker})")?,
-        SlotState::Split(count) => format!(in alloc; "Split({count})")?,
-        SlotState::Parked(chamber, place) => format!(in alloc; "Parked({chamber}, {place})")?,
-        SlotState::Closed(Ground::Bound) => format!(in alloc; "Closed(Bound)")?,
-        SlotState::Closed(Ground::Cut(number)) => format!(in alloc; "Closed(Cut({number}))")?,
-        SlotState::Closed(Ground::Swept(number)) => format!(in alloc; "Closed(Swept({number}))")?,
-        _ => format!(in alloc; "another")?,
-    })
-}
-
-// The replies to these, one after the other.
-fn replies_to(alloc: Global, book: &mut Book, asks: &[Ask]) -> Result<String, Fail> {
-    let mut text = String::new(alloc);
-    for &ask in asks {
-        let reply = text_of(alloc, &reply_of(alloc, book, ask)?)?;
-        text = format!(in alloc; "{text}{reply} ")?;
-    }
-    Ok(text)
-}
-
-// The states of the slots, in order.
-fn states_of(alloc: Global, book: &Book) -> Result<String, Fail> {
-    let mut text = String::new(alloc);
-    for id in 0..book.slots() {
-        if let Some(state) = book.slot_state(id) {
-            let word = state_text(alloc, state)?;
-            text = format!(in alloc; "{text}{word} ")?;
-        }
-    }
-    Ok(text)
-}
-
-/// The replies to these, one after the other, are those of the text. Then so many events were
-/// accepted, and the slots have these states.
+/// The book answers each of these so, one after the other.
 pub(crate) fn expect(
     rt: &impl Abort,
     alloc: Global,
     book: &mut Book,
-    asks: &[Ask],
-    replies: &str,
-    end: (u64, &str),
+    asks: &[(Ask, Told)],
 ) -> Result<(), Fail> {
-    let text = replies_to(alloc, book, asks)?;
-    assert!(rt; text.as_str() == replies);
-    let states = states_of(alloc, book)?;
-    assert!(rt; (book.history_len(), states.as_str()) == end);
+    for &(ask, answer) in asks {
+        let reply = reply_of(alloc, book, ask)?;
+        assert!(rt; told(&reply) == answer);
+    }
     Ok(())
+}
+
+/// So many events were accepted, and the slots have these states.
+pub(crate) fn expect_end(rt: &impl Abort, book: &Book, events: u64, states: &[SlotState]) {
+    assert!(rt; (book.history_len(), book.slots() as usize) == (events, states.len()));
+    for id in 0..book.slots() {
+        assert!(rt; book.slot_state(id) == states.get(id as usize).copied());
+    }
 }

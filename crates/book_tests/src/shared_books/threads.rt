@@ -2,7 +2,7 @@
 ghost use Rattle.std.specs.Prelude.{◌≡◌};
 
 use super::parts::{Part, give_back, take_part};
-use crate::fixture::{narrow, open_turns};
+use crate::fixture::{NARROW, open};
 use book_core::{Book, Reply};
 use search_book::{Event, SharedBook, share_book};
 use std::marker::Brand;
@@ -75,17 +75,11 @@ fn wait_of<L: Ledger + Send + Sync, R: Threads + Wait + Sync>(
 }
 
 #[test]
-fn who_waits_is_told_of_a_split(rt: HostRuntime) -> Result<(), Fail> {
-    let book = Box::new(rt.alloc(), open_turns(rt.alloc(), narrow()?, 128)?)?;
-    let done = wait_of::<Brand, _>(&rt, Blank::new(3), book, true);
-    assert!(rt; done == Some((3, Some(1))));
-    Ok(())
-}
-
-#[test]
-fn who_waits_is_told_of_an_ending(rt: HostRuntime) -> Result<(), Fail> {
-    let book = Box::new(rt.alloc(), open_turns(rt.alloc(), narrow()?, 128)?)?;
-    let done = wait_of::<Brand, _>(&rt, Blank::new(3), book, false);
-    assert!(rt; done == Some((3, Some(0))));
+fn who_waits_is_told_of_a_split_or_an_ending(rt: HostRuntime) -> Result<(), Fail> {
+    for (splits, slot) in [(true, 1), (false, 0)] {
+        let book = Box::new(rt.alloc(), open(rt.alloc(), NARROW)?)?;
+        let done = wait_of::<Brand, _>(&rt, Blank::new(3), book, splits);
+        assert!(rt; done == Some((3, Some(slot))));
+    }
     Ok(())
 }

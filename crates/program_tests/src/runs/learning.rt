@@ -1,6 +1,6 @@
 //! A run in which a worker with prices learns the cuts that another one found.
 
-use super::fixture::{LARGE, run_past};
+use super::fixture::run_past;
 use gates::CutGate;
 use std::alloc::Global;
 use std::process::Abort;
@@ -32,8 +32,8 @@ fn learns<R: Threads + Wait + Sync + Abort>(
     crowd: &str,
 ) -> Result<bool, Fail> {
     let gate = CutGate::new(LOOKS);
-    let ran = run_past(rt, alloc, &WORDS, crowd.as_bytes(), LARGE, &gate)?;
-    assert!(rt; ran.text.as_slice().starts_with(b"open nodes 1001 "));
+    let written = run_past(rt, alloc, &WORDS, crowd.as_bytes(), &gate)?;
+    assert!(rt; written.as_slice().starts_with(b"open nodes 1001 "));
     let Some(found) = gate.found() else {
         return Ok(false);
     };

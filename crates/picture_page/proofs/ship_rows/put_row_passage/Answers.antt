@@ -7,4 +7,4 @@ pub returns : goal.returns
 unfolding row_passage
 returns c =
     IfOk-equal c.put_form-2.result _ _ _ c.put_form-2.ensures
-    (rw (c.in_ok-put_span.ensures, c.in_ok-put.ensures, c.in_ok-put_form.ensures, c.end.ensures.value) (simp append_assoc))
+    (rw (c.in_ok-put.ensures, c.in_ok-put_form.ensures, c.in_ok-put_row_span.ensures) (simp append_assoc))

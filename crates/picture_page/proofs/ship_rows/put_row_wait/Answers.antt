@@ -6,14 +6,5 @@ use Rattle.picture_page.proofs.ship_rows.put_row_wait.Goals as goal
 pub returns : goal.returns
 unfolding row_wait
 returns c =
-    IfOk-equal c.put_count.result _ _ _ c.put_count.ensures
-    (rw (
-      c.in_ok-put_form-2.ensures,
-      c.in_ok-put_time.ensures,
-      c.in_ok-put_form.ensures,
-      c.in_ok-put.ensures,
-      c.in_ok-put_between.ensures,
-      c.as_slice.ensures.value,
-      c.way_word.ensures,
-      c.saturating_sub.ensures,
-    ) (simp append_assoc))
+    IfOk-equal c.put_number.result _ _ _ c.put_number.ensures
+    (rw (c.in_ok-put_form-2.ensures, c.in_ok-put_time.ensures, c.in_ok-put_form.ensures, c.saturating_sub.ensures) (simp append_assoc))

@@ -7,4 +7,4 @@ pub returns : goal.returns
 unfolding feet
 returns c =
     IfOk-equal c.put_size_below.result _ _ _ c.put_size_below.ensures
-    (rw (c.in_ok-put_form.ensures) (simp append_assoc))
+    (rw (c.in_ok-put_form-2.ensures, c.in_ok-put_form.ensures) (simp append_assoc))

@@ -1,38 +1,16 @@
-//! Worked decks, and worked placements under the laws of decks.
+//! Worked placements under the laws of decks.
 //!
 //! The laws ask for a legal placement; the judge shows that one written out by hand is.
 ghost use Rattle.std.specs.Prelude.{◌≤◌, IfSome};
 ghost use Rattle.deck_laws.specs.Widen.{IsRoomier};
 
-use crate::fixture::{LEFT, Place, QUAY, RIGHT, SHORT, TWINS, spots_of, worked_deck};
-use deck_laws::{heredity, normal_form, normalise, spot_values, thin_out, widen};
+use super::fixture::{LEFT, Place, QUAY, RIGHT, TWINS, spots_of, worked_deck};
+use deck_laws::{thin_out, widen};
 use lock_model::{Deck, Measures, Moor, Spots};
 use mooring_rules::judge_spots;
 use std::process::Abort;
 use std::test::Fail;
 use worked_locks::BASE;
-
-#[test]
-fn spot_values_are_steps_from_the_near_end(rt: HostRuntime) -> Result<(), Fail> {
-    let deck = worked_deck(BASE, &[(500, 60), (300, 60)])?;
-    let values = spot_values(rt.alloc(), &deck)?;
-    assert!(rt; values.as_slice() == [10, 210, 330, 530].as_slice());
-    Ok(())
-}
-
-#[test]
-fn a_ship_that_fills_its_chamber_has_no_spot_value(rt: HostRuntime) -> Result<(), Fail> {
-    let deck = worked_deck(SHORT, &[(90, 50)])?;
-    let values = spot_values(rt.alloc(), &deck)?;
-    assert!(rt; values.as_slice().is_empty());
-    Ok(())
-}
-
-#[test]
-fn the_laws_stand(_rt: HostRuntime) {
-    heredity();
-    normal_form();
-}
 
 // The deck in a chamber of this width, if it is within the limits.
 fn widened(deck: &Deck, width: u32) -> Option<Deck>
@@ -46,18 +24,6 @@ fn widened(deck: &Deck, width: u32) -> Option<Deck>
         side: deck.side,
     };
     Deck::new(measures, deck.ships.copy())
-}
-
-#[test]
-fn a_flush_pair_is_pushed_to_the_near_end(rt: HostRuntime) -> Result<(), Fail> {
-    let deck = worked_deck(BASE, &[(500, 60), (500, 60)])?;
-    let mut spots = spots_of(&[(40, 0, LEFT, QUAY), (40, 65, LEFT, Moor::Ship(0))]);
-    assert!(rt; spots.as_slice().len() == deck.ships.as_slice().len());
-    assert!(rt; judge_spots(&deck, &spots).is_none());
-    normalise(&deck, &mut spots);
-    let pushed = spots_of(&[(10, 0, LEFT, QUAY), (10, 65, LEFT, Moor::Ship(0))]);
-    assert!(rt; spots == pushed);
-    Ok(())
 }
 
 // Without this ship the other two lie at these places.

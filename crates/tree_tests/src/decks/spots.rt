@@ -1,5 +1,5 @@
 //! Decks placed and refuted by spots.
-use crate::fixture::{LEFT, NARROW, QUAY, RIGHT, SHORT, TWINS, spots_of, worked_deck};
+use super::fixture::{LEFT, NARROW, QUAY, RIGHT, SHORT, TWINS, spots_of, worked_deck};
 use lock_model::Measures;
 use spot_place::{SpotPlaced, place_by_spots};
 use std::alloc::Global;

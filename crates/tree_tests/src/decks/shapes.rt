@@ -1,5 +1,5 @@
 //! Reasons that are seen from the shapes of ships, found by hand.
-use crate::fixture::{NARROW, TWINS, worked_deck};
+use super::fixture::{NARROW, TWINS, worked_deck};
 use lock_model::Measures;
 use ship_shapes::{Quick, find_reason};
 use std::test::Fail;

@@ -1,5 +1,5 @@
-//! Measures, decks with cargo, and places of ships.
-use lock_model::{Deck, Measures, Moor, Rank, Size, Sizes, Spot, Spots};
+//! Measures, decks, and places of ships.
+use lock_model::{Deck, Measures, Moor, Rank, Spot, Spots};
 use std::test::Fail;
 use worked_locks::{BASE, deck_of};
 
@@ -38,22 +38,4 @@ pub(crate) fn spots_of(places: &[Place]) -> Spots {
         }
     }
     spots
-}
-
-/// A ship by length, width and cargo class.
-pub(crate) type Laden = (u32, u32, u8);
-
-/// The deck of the first eight of these ships; None where a limit fails.
-pub(crate) fn laden_deck(measures: Measures, ships: &[Laden]) -> Option<Deck> {
-    let mut sizes = Sizes::new();
-    for &(length, width, cargo) in ships {
-        if sizes.as_slice().len() < 8 {
-            sizes.push(Size {
-                length,
-                width,
-                cargo,
-            });
-        }
-    }
-    Deck::new(measures, sizes)
 }
