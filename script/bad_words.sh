@@ -27,7 +27,7 @@ check_option() {
     -o | --output) refuse "-o needs the name of a file after it, and may stand once"; return ;;
     --clock) check_clock "${1#--clock}" "${2-}"; return ;;
     --seconds) check_seconds "${1#--seconds}" "${2-}"; return ;;
-    --progress) check_progress; return ;;
+    --progress | --stats) check_search_word "$name"; return ;;
     --drop | --plan-text) check_replan_word "$name"; return ;;
     --*) ;;
     *) refuse_short "$1"; return ;;
@@ -125,11 +125,11 @@ check_seconds() {
   fi
 }
 
-check_progress() {
+check_search_word() {
   if searches "$command"; then
-    refuse "--progress stands alone and once"
+    refuse "$1 stands alone and once"
   else
-    refuse "--progress is for solve, resume and replan, and not for ${command:-this}"
+    refuse "$1 is for solve, resume, replan and trial, and not for ${command:-this}"
   fi
 }
 

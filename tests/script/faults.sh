@@ -42,7 +42,10 @@ check --seconds 5 | --seconds is for solve and resume, and not for check
 replan --seconds 5 | --seconds is for solve and resume, and not for replan
 solve --progress --progress | --progress stands alone and once
 resume --progress=1 | --progress stands alone and once
-check --progress | --progress is for solve, resume and replan, and not for check
+check --progress | --progress is for solve, resume, replan and trial, and not for check
+solve --stats --stats | --stats stands alone and once
+trial --stats=1 | --stats stands alone and once
+judge --stats | --stats is for solve, resume, replan and trial, and not for judge
 solve --keep=1 | --keep stands alone
 check --keep | --keep isn't for check; check takes -o
 replan evening.lock evening.plan | replan needs --now and the minute that it is, or --from
