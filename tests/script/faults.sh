@@ -83,16 +83,36 @@ solve -clock 17:00 | "-clock" is no option; options begin with two dashes; perha
 solve --out x | there is no option --out; perhaps --output is meant
 solve -x.lock | "-x.lock" begins with a dash, as options do; ./-x.lock names the file
 replan evening.lock evening.plan --now 9:30 --clock 06:00 | and not "9:30"; with --clock it takes a time of day too, such as 09:30
+solve --clock 5pm | and not "5pm"; perhaps 17:00 is meant
+solve --clock 17.30 | and not "17.30"; perhaps 17:30 is meant
+solve --clock 0730 | and not "0730"; perhaps 07:30 is meant
+solve --clock=7:30 | and not "7:30"; perhaps 07:30 is meant
+solve --nodes 10,000 | and not "10,000"; perhaps 10000 is meant
+solve --nodes=1e5 | and not "1e5"; perhaps 100000 is meant
+solve --seconds 60s | and not "60s"; perhaps 60 is meant
+solve --threads 4 | there is no option --threads; perhaps --workers is meant
+trial --threads 4 | there is no option --threads; trial takes
+resume --time-limit 60 | there is no option --time-limit; perhaps --seconds is meant
+lot --seed 3 | there is no option --seed; perhaps --number is meant
+solve -i evening.lock | "-i" is no option; options begin with two dashes; a file is named without an option
+solve --hlep | there is no option --hlep; perhaps --help is meant
+lot 3 12 2 | numbers follow their options, as in lot --number 1 --ships 12 --chambers 2
+trial evening.lock | trial reads no file, so "evening.lock" is one word too many; ./glock solve reads a file
+replan evening.lock evening.plan 150 | "150" is one file too many; the minute that it is follows --now
+replan evening.lock evening.plan 19:30 | "19:30" is one file too many; the minute that it is follows --now
+draw evening.lock | there is no command "draw"; perhaps picture is meant
+verify evening.lock | perhaps check is meant, which reads a dossier, or judge, which reads a plan
 replan evening.lock evening.plan --now 5 --drop gull iris | "iris" is one file too many; each ship has a --drop of its own, as in --drop gull --drop iris
 ROWS
 
-# an edit of evening.lock, the program's words, and a part of the sentence
+# an edit of evening.lock, the program's words, how the sentence begins, and a later part of it
 faulty_instance() {
   local words
   sed "$1" "$room/evening.lock" >"$room/x.lock"
   read -r -a words <<<"$2"
   call solve x.lock
   check "instance: $2" gives 3 "$2" "x.lock:${words[1]}: fault ${words[3]} ${words[4]}: $3"
+  [ -z "${4-}" ] || check "instance: $2, what to do" holds "$err" "$4"
 }
 rows faulty_instance <<'ROWS'
 4s/alva/\xff/ | line 4 fault 1 NotUtf8 | this line holds a byte that is no text
@@ -103,6 +123,12 @@ rows faulty_instance <<'ROWS'
 1s/.*/plan/ | line 1 fault 2 NoHeader | this is a plan; the file with the chambers and the ships is wanted, and no plan.
 1s/.*/optimal cost 270/ | line 1 fault 2 NoHeader | this is a report
 4s/up/north/ | line 4 fault 3 Word | "north" stands where up or down must stand.
+4s/up/upstream/ | line 4 fault 3 Word | "upstream" stands where up or down must stand; perhaps up is meant.
+3s/high/upper/ | line 3 fault 3 Word | "upper" stands where low or high must stand; perhaps high is meant.
+4s/1100 114/1100x114/ | line 4 fault 4 Count | this line has 6 words | "1100x114" looks like two numbers; between them stands a space.
+4s/$/ 3/ | line 4 fault 4 Count | this line has 8 words | The first line is `glock 1`, so no class is read; write `glock 2` there.
+4s/114/11m/ | line 4 fault 5 Number | "11m" stands for the width, which must be a whole number: digits alone, no sign, point or unit. Sizes are decimetres: 11 metres are 110.
+4s/alva/Grüße/ | line 4 fault 7 Name | "Grüße" can't be a name | digits, - or _; write ue where the letter is u with two dots
 4s/up/Up/ | line 4 fault 3 Word | "Up" stands where up or down must stand; perhaps up is meant.
 4s/ship/shp/ | line 4 fault 3 Word | no line may begin with "shp" here; lines begin with chamber, ship, close (with `glock 2` or `glock 3`) or end. Perhaps ship is meant.
 3s/high/top/ | line 3 fault 3 Word | "top" stands where low or high must stand
@@ -240,6 +266,18 @@ end
 certificate
 {"cost":120,"cuts":[{"chamber":0,"ships":[0,1],"why":[1,0,1]}],"plan":[{"chamber":0,"ships":[0],"spots":[[10,0,0,0]],"start":0,"way":0},{"chamber":0,"ships":[1],"spots":[[10,0,0,0]],"start":50,"way":0}],"tree":[0,0,100,1,1]}
 DOSSIER
+
+# what is no dossier
+call solve two-chambers.lock --nodes 50 -o x.report
+no_dossier() {
+  call $1
+  check "no dossier: $1" gives 7 "dossier fault 1 Instance" "$2"
+}
+rows no_dossier <<'ROWS'
+resume x.report | x.report:1: fault 2 NoHeader: this is a report, and resume reads a dossier: ./glock solve --keep writes an open one
+check x.report | x.report:1: fault 2 NoHeader: this is a report, and check reads a dossier: ./glock solve --dossier writes one.
+lower evening.plan | evening.plan:2: fault 2 NoHeader: this is a plan, and lower reads a dossier: ./glock solve --keep
+ROWS
 
 # an edit of a dossier, the program's words, and a part of the message
 bad_dossier() {
