@@ -92,6 +92,7 @@ function twice_given() { return "here the chambers and the ships come a second t
 function sentence() {
   if (kind == "NoHeader") return no_instance()
   if (kind == "NoMark") return no_plan()
+  if (/\302\240/) return no_plain_spaces()
   if (kind == "Count" && $1 in count) return "this line has " NF (NF == 1 ? " word" : " words") "; " count[$1] "." name_of_two_words() two_numbers() class_of_format_1()
   if (kind == "Word") return first_wrong_choice()
   if (kind == "Number") return first_no_number()
@@ -119,7 +120,10 @@ function no_instance() {
   if (command ~ /^(check|lower|resume)$/ && ($1 == "plan" || is_report())) return "this is a " ($1 == "plan" ? "plan" : "report") ", and " command " reads a dossier: " dossier_for()
   if ($1 == "plan" && !with_plan) return "this is a plan; the file with the chambers and the ships is wanted, and no plan."
   if ($1 == "plan") return "a plan begins here; the file with the chambers and the ships comes first, and the plan after it."
-  if (is_report()) return "this is a report; the file with the chambers and the ships is wanted."
+  if (is_report()) return with_plan ? "a report begins here; the file with the chambers and the ships comes first, and the plan after it." : "this is a report; the file with the chambers and the ships is wanted."
+  if ($1 ~ /^</) return "this is a page, as picture makes one, and no text; the file with the chambers and the ships is wanted."
+  if ($1 ~ /^[{\[]/) return "this is JSON; the file with the chambers and the ships is wanted, which begins with `glock 1`."
+  if (/\302\240/) return no_plain_spaces()
   if (tolower($1) == "glock" && $1 != "glock") return "\"" $1 "\" must be written in small letters: glock."
   return "\"" $1 (NF > 1 ? " " $2 : "") (NF > 2 ? " .." : "") "\" stands where `glock 1` must stand, or `glock 2` where there are closures or cargo classes, or `glock 3` where there are more than 24 ships."
 }
@@ -127,6 +131,8 @@ function no_instance() {
 function dossier_for() {
   return command == "check" ? "./glock solve --dossier writes one." : "./glock solve --keep writes an open one where the search stops too early."
 }
+
+function no_plain_spaces() { return "between the words stand no-break spaces; write plain ones." }
 
 function hidden_mark() { return "the file begins with a hidden mark of three bytes; save it as UTF-8 without a byte order mark." }
 
@@ -136,6 +142,7 @@ function no_plan() {
   if ($1 ~ /^\357\273\277/) return hidden_mark()
   if (tolower($1) == "plan" && NF == 1) return "\"" $1 "\" must be written in small letters: plan."
   if (is_report()) return "this is a report, of which no plan could be made."
+  if ($1 ~ /^</) return "this is a page, as picture makes one; the plan's text or its report is wanted."
   if (NR == number && NF) return "\"" $1 "\" stands where the line `plan` must stand, after the instance's line end; of two files the plan's is the second."
   return "nothing follows the chambers and the ships; a plan is wanted too, as a second file (or - for standard input) or behind them."
 }

@@ -166,6 +166,36 @@ $s/end/plan/ | line 13 fault 3 Word | the plan begins here, and the line end bef
 1s/1/2/;4s/^/close main 9 2\n/ | line 4 fault 14 Overlap | the closure begins at minute 9 and ends at minute 2
 ROWS
 
+# Files that are no lock's file: how the bytes are made, the program's words, and the sentence.
+printf 'PK\003\004\024\000\377\376\n' >"$room/x.xlsx"
+printf '%%PDF-1.4\n\342\343\n' >"$room/x.pdf"
+printf '\037\213\010\000\377\n' >"$room/x.gz"
+{ printf '\377\376'; sed 's/./&\x00/g;s/$/\x00/' "$room/evening.lock"; } >"$room/marked.lock"
+sed 's/./&\x00/g;s/$/\x00/' "$room/evening.lock" >"$room/wide.lock"
+sed 's/ /\xc2\xa0/g' "$room/evening.lock" >"$room/stiff.lock"
+sed '4s/ship /ship\xc2\xa0/' "$room/evening.lock" >"$room/stiff-ship.lock"
+echo '{"ships":[]}' >"$room/x.json"
+call solve two-chambers.lock --nodes 50 -o x.report
+echo '<!DOCTYPE html><html>' >"$room/x.html"
+other_file() {
+  call $1
+  check "no lock's file: $1" gives 3 "line" "$2"
+}
+rows other_file <<'ROWS'
+solve x.xlsx | x.xlsx:1: fault 1 NotUtf8: this is a spreadsheet or an archive; save its table as CSV
+solve x.pdf | x.pdf:2: fault 1 NotUtf8: this is a PDF, and a plain text is wanted.
+solve x.gz | x.gz:1: fault 1 NotUtf8: this file is compressed; unpack it first.
+solve marked.lock | marked.lock:1: fault 1 NotUtf8: this file is UTF-16; save it as plain text (UTF-8).
+solve wide.lock | wide.lock:1: fault 2 NoHeader: this file is UTF-16; save it as plain text (UTF-8).
+solve stiff.lock | stiff.lock:1: fault 2 NoHeader: between the words stand no-break spaces; write plain ones.
+solve stiff-ship.lock | stiff-ship.lock:4: fault 3 Word: between the words stand no-break spaces; write plain ones.
+solve x.json | x.json:1: fault 2 NoHeader: this is JSON; the file with the chambers and the ships is wanted
+solve x.html | x.html:1: fault 2 NoHeader: this is a page, as picture makes one, and no text
+play x.report evening.lock | x.report:1: fault 2 NoHeader: a report begins here; the file with the chambers and the ships comes first
+ROWS
+call judge evening.lock x.html
+check "a page in a plan's place" gives 10 "plan line 1 fault 2 NoMark" "x.html:1: fault 2 NoMark: this is a page, as picture makes one; the plan's text or its report is wanted."
+
 # a format, a number of ships for the chambers of the evening, the program's words, and a part of the sentence
 many_ships() {
   local words
@@ -268,7 +298,6 @@ certificate
 DOSSIER
 
 # what is no dossier
-call solve two-chambers.lock --nodes 50 -o x.report
 no_dossier() {
   call $1
   check "no dossier: $1" gives 7 "dossier fault 1 Instance" "$2"

@@ -135,6 +135,7 @@ rows wrong_call <<'ROWS'
 | plan_of_dossier.awk | cut.dossier | 1 | its plan is damaged or cut off | berth
 | plan_of_dossier.awk | evening.dossier | 0 | | lockage main up 0
 | plan_of_report.awk | evening.lock | 1 | plan_of_report: this is no report: it has no lockage
+| plan_of_report.awk | 1700.report | 1 | give the lock's file, as -v lock=evening.lock, or the time of minute 0, as -v begin=17:00 | plan
 | plan_of_report.awk | evening.plan | 1 | line 3 is no line of a report; perhaps this is a plan text already
 ROWS
 { echo name,way,length,width,arrival; printf 's%s,up,50,6,0\n' {1..25}; } >"$room/ships.csv"
