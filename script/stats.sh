@@ -9,7 +9,7 @@ end_stats() { note_times ended; }
 note_times() {
   $wants_stats || return 0
   times >"$room/$1"
-  echo "$EPOCHREALTIME" >>"$room/$1"
+  echo "${EPOCHREALTIME:-$SECONDS}" >>"$room/$1"
 }
 
 # from the first to the second file: milliseconds by the clock, and of the processor of all that the script started and that ended
