@@ -40,7 +40,7 @@ END {
   first = minute_of_begin()
   write("plan", 1)
   for (i = 1; i <= lockages; i++) {
-    if (start[i] ~ /:/ && first == "") fail("line " row[i] " has a time of day; give the lock's file or the time of minute 0")
+    if (start[i] ~ /:/ && first == "") fail("line " row[i] " has a time of day; give the lock's file, as -v lock=evening.lock, or the time of minute 0, as -v begin=17:00")
     minute = start[i] ~ /:/ ? minutes(start[i]) - first : start[i]
     if (minute !~ /^[0-9]+$/) fail("line " row[i] " starts before minute 0")
     write("lockage " head[i] " " minute, row[i])

@@ -28,12 +28,12 @@ check_option() {
     --clock) check_clock "${1#--clock}" "${2-}"; return ;;
     --seconds) check_seconds "${1#--seconds}" "${2-}"; return ;;
     --title) check_title; return ;;
-    --progress) check_progress; return ;;
+    --progress | --stats) check_search_word "$name"; return ;;
     --drop | --plan-text) check_replan_word "$name"; return ;;
     --*) ;;
     *) refuse_short "$1"; return ;;
   esac
-  is_option "$name" || is_flag "$name" || { refuse "there is no option $name$(perhaps "$name" "$(all_options)"); $(what_it_takes)"; return; }
+  is_option "$name" || is_flag "$name" || { refuse "there is no option $name$(perhaps_option "$name"); $(what_it_takes)"; return; }
   if is_command "$command" && [[ " $(options_of "$command") " != *" $name "* ]]; then
     refuse "$name isn't for $command; $(what_it_takes)"
     return
@@ -48,7 +48,7 @@ refuse_short() {
   if [ -e "$1" ]; then
     refuse "\"$1\" begins with a dash, as options do; ./$1 names the file"
   else
-    refuse "\"$1\" is no option; options begin with two dashes$(perhaps "-$1" "$(all_options)"), and $(what_it_takes)"
+    refuse "\"$1\" is no option; options begin with two dashes$(perhaps_option "-$1"), and $(what_it_takes)"
   fi
 }
 
@@ -65,7 +65,20 @@ check_text() {
   esac
   read -r least most <<<"$(range_of "$1")"
   in_range "$text" "$least" "$most" && return
-  refuse "$1 takes a whole number from $(with_commas "$least") to $(with_commas "$most")${text:+, and not \"$text\"}$(about_time "$1" "$text")"
+  refuse "$1 takes a whole number from $(with_commas "$least") to $(with_commas "$most")${text:+, and not \"$text\"}$(perhaps_number "$text" "$least" "$most")$(about_time "$1" "$text")"
+}
+
+# the number that was perhaps meant by 10,000, 10k, 1e4 or 60s
+perhaps_number() {
+  local text=${1//[,_\']/}
+  if [[ $text =~ ^([0-9]{1,7})(k|s|e([0-6]))$ ]]; then
+    case ${BASH_REMATCH[2]} in
+      k) text=${BASH_REMATCH[1]}000 ;;
+      s) text=${BASH_REMATCH[1]} ;;
+      *) text=$((10#${BASH_REMATCH[1]} * 10 ** BASH_REMATCH[3])) ;;
+    esac
+  fi
+  if [ "$text" != "$1" ] && in_range "$text" "$2" "$3"; then echo "; perhaps $text is meant"; fi
 }
 
 # of a time of day that gave no minute, or that isn't written as one
@@ -108,8 +121,21 @@ check_clock() {
   elif is_time_of_day "$time"; then
     refuse "--clock may stand once"
   else
-    refuse "--clock needs a time of day after it, such as 06:00, from 00:00 to 23:59${time:+, and not \"$time\"}"
+    refuse "--clock needs a time of day after it, such as 06:00, from 00:00 to 23:59${time:+, and not \"$time\"}$(perhaps_time "$time")"
   fi
+}
+
+# the time of day that was perhaps meant by 17.30, 17h30, 1730, 7:30 or 5pm
+perhaps_time() {
+  local hour time
+  [[ ${1,,} =~ ^([0-9]{1,2})[:.h]?([0-9]{2})?h?(am|pm)?$ ]] || return 0
+  hour=$((10#${BASH_REMATCH[1]}))
+  case ${BASH_REMATCH[3]} in
+    pm) hour=$((hour % 12 + 12)) ;;
+    am) hour=$((hour % 12)) ;;
+  esac
+  printf -v time '%02d:%s' "$hour" "${BASH_REMATCH[2]:-00}"
+  if is_time_of_day "$time"; then echo "; perhaps $time is meant"; fi
 }
 
 check_seconds() {
@@ -118,7 +144,7 @@ check_seconds() {
   if ! takes_seconds "$command"; then
     refuse "--seconds is for solve and resume, and not for ${command:-this}"
   elif ! in_range "$text" 1 86400; then
-    refuse "--seconds takes a whole number from 1 to 86,400${text:+, and not \"$text\"}"
+    refuse "--seconds takes a whole number from 1 to 86,400${text:+, and not \"$text\"}$(perhaps_number "$text" 1 86400)"
   elif names_option --nodes; then
     refuse "--seconds and --nodes can't stand together"
   else
@@ -134,11 +160,11 @@ check_title() {
   fi
 }
 
-check_progress() {
+check_search_word() {
   if searches "$command"; then
-    refuse "--progress stands alone and once"
+    refuse "$1 stands alone and once"
   else
-    refuse "--progress is for solve, resume and replan, and not for ${command:-this}"
+    refuse "$1 is for solve, resume, replan and trial, and not for ${command:-this}"
   fi
 }
 
@@ -154,7 +180,7 @@ check_plain() {
       return
     else
       case $(most_files "$command") in
-        0) refuse "$command reads no file, so \"$word\" is one word too many" ;;
+        0) refuse "$command reads no file, so \"$word\" is one word too many; $(what_takes "$word")" ;;
         1) refuse "$command reads one file, so \"$word\" is one too many$(many_days "$word")$(what_else "$word")" ;;
         2) refuse "$command reads an instance and a plan, so \"$word\" is one file too many$(each_dropped "$word")$(what_else "$word")" ;;
       esac
@@ -167,18 +193,68 @@ refuse_command() {
   if [ -f "$1" ]; then
     refuse "the command is missing before the file \"$1\", as in ./glock solve $1; $(the_commands)"
   else
-    refuse "there is no command \"$1\"$(perhaps "$1" "$commands $own_commands --version"); $(the_commands)"
+    refuse "there is no command \"$1\"$(perhaps_command "$1"); $(the_commands)"
+  fi
+}
+
+# the command that is spelt nearly so, or does what the word says
+perhaps_command() {
+  local near
+  near=$(perhaps "$1" "$commands $own_commands --version")
+  case ${1,,} in
+    draw | plot | paint | html | svg | page | pdf) near="; perhaps picture is meant" ;;
+    verify | prove-plan | audit) near="; perhaps check is meant, which reads a dossier, or judge, which reads a plan" ;;
+    validate | cost) near="; perhaps judge is meant" ;;
+    plan | run | optimize | optimise | schedule) near="; perhaps solve is meant" ;;
+    print | show | day | simulate) near="; perhaps play is meant, or picture" ;;
+    generate | random | example | instance) near="; perhaps lot is meant" ;;
+    continue | restart) near="; perhaps resume is meant" ;;
+    update | rest | now) near="; perhaps replan is meant" ;;
+    compare | diff) near="; perhaps changes is meant" ;;
+    list | summary | report | days | csv) near="; perhaps table is meant" ;;
+    man | manual | usage) near="; perhaps help is meant" ;;
+    build | make) near="; perhaps prove is meant" ;;
+  esac
+  echo "$near"
+}
+
+# the option that is spelt nearly so, or that does what the word says, where the command takes it
+perhaps_option() {
+  local means=
+  case ${1#--} in
+    j | threads | jobs | cores | cpus) means=--workers ;;
+    t | time | timeout | limit | time-limit | minutes) means=--seconds ;;
+    seed | n) means=--number ;;
+    steps | iterations) means=--nodes ;;
+    output-file | save) means=-o ;;
+    v | verbose) means=--progress ;;
+    f | i | file | input | plan | instance | lock)
+      echo "; a file is named without an option"
+      return
+      ;;
+  esac
+  if [ -n "$means" ] && is_command "$command" && [[ " $(all_options) -o " == *" $means "* ]]; then
+    echo "; perhaps $means is meant"
+  else
+    perhaps "$1" "$(all_options)"
   fi
 }
 
 # what a word may be that names no file
 what_else() {
   [ ! -e "$1" ] || return 0
-  if is_time_of_day "$1" && takes_clock "$command"; then
+  if [ "$command" = replan ] && { is_time_of_day "$1" || [[ $1 =~ ^[0-9]+$ ]]; }; then
+    echo "; the minute that it is follows --now"
+  elif is_time_of_day "$1" && takes_clock "$command"; then
     echo "; a time of day follows --clock"
   elif [ ${#drops[@]} = 0 ] && [ -z "$output" ]; then
     echo "; -o $1 writes the answer to that file"
   fi
+}
+
+# of a command that reads no file
+what_takes() {
+  if [ -f "$1" ]; then echo "./glock solve reads a file"; else echo "numbers follow their options, as in $command --number 1 --ships 12 --chambers 2"; fi
 }
 
 # the file that was perhaps meant: with the end of its name, or of a name near by
@@ -212,7 +288,7 @@ what_it_takes() {
 
 the_commands() { echo "the commands are ${commands// /, }, and of the script ${own_commands// /, }"; }
 
-all_options() { if is_command "$command"; then echo "$(options_of "$command") --output --clock --help"; else echo "--help --version"; fi; }
+all_options() { if is_command "$command"; then echo "$(options_of "$command") $(own_options_of "$command" | tr '\n' ' ') --output --help"; else echo "--help --version"; fi; }
 
 # the word of some others that was perhaps meant
 perhaps() {

@@ -25,7 +25,7 @@ reads_dossier() { [[ " check lower resume picture " == *" $1 "* ]]; }
 takes_seconds() { [[ $1 = solve || $1 = resume ]]; }
 
 # whether how far a command's search is can be shown
-searches() { [[ " solve resume replan " == *" $1 "* ]]; }
+searches() { [[ " solve resume replan trial " == *" $1 "* ]]; }
 
 # the options that a command takes
 options_of() {
@@ -44,7 +44,7 @@ own_options_of() {
   if takes_clock "$1"; then echo "--clock"; fi
   if takes_seconds "$1"; then echo "--seconds"; fi
   if [ "$1" = picture ]; then echo "--title"; fi
-  if searches "$1"; then echo "--progress"; fi
+  if searches "$1"; then echo "--progress --stats"; fi
   if [ "$1" = replan ]; then echo "--drop --plan-text"; fi
 }
 

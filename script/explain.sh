@@ -92,7 +92,8 @@ explain_refused() {
 # a faulty line: the part of the text, the line of the whole input, the fault's number and kind
 explain_line() {
   local sentence=
-  if [ -n "$input" ]; then
+  if [ -n "$input" ] && [[ "$1 $4" =~ ^"instance "(NotUtf8|NoHeader)$ ]]; then sentence=$(no_plain_text); fi
+  if [ -n "$input" ] && [ -z "$sentence" ]; then
     sentence=$(awk -v number="$2" -v kind="$4" -v part="$1" -v command="$command" -v with_plan="$(reads_plan "$command" && echo 1)" \
       -f "$script/nearest.awk" -f "$script/line.awk" "$input" 2>/dev/null)
     sentence=$(with_lines "$sentence")
@@ -103,6 +104,20 @@ explain_line() {
   fi
   say_at "$(place_of "$2")" "fault $3 $4: $sentence"
 }
+
+# what a file is that isn't plain text, by how it begins
+no_plain_text() {
+  local LC_ALL=C first=
+  IFS= read -r -d '' -n 4 first <"$input"
+  case $first in
+    $'PK\003'*) echo "this is a spreadsheet or an archive; save its table as CSV, of which examples/lock_of_csv.awk makes a lock's file." ;;
+    %PDF) echo "this is a PDF, and a plain text is wanted." ;;
+    $'\x1f\x8b'*) echo "this file is compressed; unpack it first." ;;
+    *) if [[ $first == $'\xff\xfe'* || $first == $'\xfe\xff'* ]] || has_zero_byte; then echo "this file is UTF-16; save it as plain text (UTF-8)."; fi ;;
+  esac
+}
+
+has_zero_byte() { [ "$(head -n 1 "$input" | tr -d -c '\0' | wc -c)" -gt 0 ]; }
 
 # a sentence in which numbers of lines stand between two signs of code 1, with the lines as they were given
 with_lines() {

@@ -10,7 +10,7 @@ tell_about() {
   if [[ $topic =~ ^[a-z]+$ ]] && [ -f "$script/help/$topic.txt" ]; then
     sed "s#\./glock#$me#g" "$script/help/$topic.txt"
   else
-    say "there is no help on \"$topic\"; there is on ${commands// /, }, ${own_commands// /, }"
+    say "there is no help on \"$topic\"$(perhaps "$topic" "$commands $own_commands"); there is on ${commands// /, }, ${own_commands// /, }"
     return 2
   fi
 }

@@ -17,7 +17,7 @@ take_input() {
   if [ "${files[*]}" = "- -" ]; then say "standard input can be read once, so - may stand for one of the two files"; return 2; fi
   for file in "${files[@]}"; do
     [ "$file" != - ] || continue
-    [ -d "$file" ] && { say "$file is a folder"; return 66; }
+    [ -d "$file" ] && { say "$file is a folder$(file_in_folder "${file%/}")"; return 66; }
     [ -r "$file" ] || { say "$file can't be read: no permission"; return 66; }
   done
   case ${#files[@]} in
@@ -109,6 +109,14 @@ place_of() {
   else
     echo "$first_name:$line"
   fi
+}
+
+# of a folder that is given in a file's place
+file_in_folder() {
+  local file
+  for file in "$1"/*.lock; do
+    if [ -f "$file" ]; then echo "; one file at a time is read, such as $file"; return; fi
+  done
 }
 
 # the number of the first line whose words are the one word `end`

@@ -38,6 +38,7 @@ tell_version() {
 install_glock() {
   local share
   [ $# = 1 ] && [[ $1 != -* ]] || { say "install needs the name of one folder, such as ~/.local or /usr/local"; return 2; }
+  is_installed || has_sources || { say_no_sources; return 69; }
   look_at_programs
   if [ $status_of_programs = unbuilt ]; then
     say "the programs aren't built here yet: ./glock prove builds them, or a first answer of ./glock solve and one of ./glock picture"

@@ -67,6 +67,7 @@ NR < number && NF == 1 && $1 == "end" { ends++; last = NR }
 NR < number && $1 == "close" { closures++; chamber_of[closures] = $2; from[closures] = $3 + 0; to[closures] = $4 + 0; row[closures] = NR }
 NR < number && $1 == "lockage" { lockage = NR }
 NR < number && $1 == "berth" { berth_of[lockage " " $2] = NR }
+NR < number && $1 == "glock" { version = $2 }
 NR < number && $1 == "glock" && $2 == 3 { many["ship"] = "96 ship lines" }
 NR < number && $1 == "ship" && ++ships > few { many["lockage"] = ships " lockages, as many as there are ships" }
 NR < number && ($1 == "chamber" || $1 == "ship") {
@@ -91,7 +92,8 @@ function twice_given() { return "here the chambers and the ships come a second t
 function sentence() {
   if (kind == "NoHeader") return no_instance()
   if (kind == "NoMark") return no_plan()
-  if (kind == "Count" && $1 in count) return "this line has " NF (NF == 1 ? " word" : " words") "; " count[$1] "." name_of_two_words()
+  if (/\302\240/) return no_plain_spaces()
+  if (kind == "Count" && $1 in count) return "this line has " NF (NF == 1 ? " word" : " words") "; " count[$1] "." name_of_two_words() two_numbers() class_of_format_1()
   if (kind == "Word") return first_wrong_choice()
   if (kind == "Number") return first_no_number()
   if (kind == "Range") return first_out_of_range()
@@ -115,12 +117,22 @@ function no_instance() {
   if (/\r/) return "the lines end in carriage returns alone; save the file with line feeds."
   if (/[,;\t].*[,;\t]/ && /[Ll]ength/) return "this is a table of ships; examples/lock_of_csv.awk makes a lock's file of it."
   if ($1 == "certificate") return "this is a certificate without its chambers and ships, which come first."
+  if (command ~ /^(check|lower|resume)$/ && ($1 == "plan" || is_report())) return "this is a " ($1 == "plan" ? "plan" : "report") ", and " command " reads a dossier: " dossier_for()
   if ($1 == "plan" && !with_plan) return "this is a plan; the file with the chambers and the ships is wanted, and no plan."
   if ($1 == "plan") return "a plan begins here; the file with the chambers and the ships comes first, and the plan after it."
-  if (is_report()) return "this is a report; the file with the chambers and the ships is wanted."
+  if (is_report()) return with_plan ? "a report begins here; the file with the chambers and the ships comes first, and the plan after it." : "this is a report; the file with the chambers and the ships is wanted."
+  if ($1 ~ /^</) return "this is a page, as picture makes one, and no text; the file with the chambers and the ships is wanted."
+  if ($1 ~ /^[{\[]/) return "this is JSON; the file with the chambers and the ships is wanted, which begins with `glock 1`."
+  if (/\302\240/) return no_plain_spaces()
   if (tolower($1) == "glock" && $1 != "glock") return "\"" $1 "\" must be written in small letters: glock."
   return "\"" $1 (NF > 1 ? " " $2 : "") (NF > 2 ? " .." : "") "\" stands where `glock 1` must stand, or `glock 2` where there are closures or cargo classes, or `glock 3` where there are more than 24 ships."
 }
+
+function dossier_for() {
+  return command == "check" ? "./glock solve --dossier writes one." : "./glock solve --keep writes an open one where the search stops too early."
+}
+
+function no_plain_spaces() { return "between the words stand no-break spaces; write plain ones." }
 
 function hidden_mark() { return "this line begins with a hidden mark of three bytes; save the file as UTF-8 without a byte order mark." }
 
@@ -130,6 +142,7 @@ function no_plan() {
   if ($1 ~ /^\357\273\277/) return hidden_mark()
   if (tolower($1) == "plan" && NF == 1) return "\"" $1 "\" must be written in small letters: plan."
   if (is_report()) return "this is a report, of which no plan could be made."
+  if ($1 ~ /^</) return "this is a page, as picture makes one; the plan's text or its report is wanted."
   if (NR == number && NF) return "\"" $1 "\" stands where the line `plan` must stand, after the instance's line end; of two files the plan's is the second."
   return "nothing follows the chambers and the ships; a plan is wanted too, as a second file (or - for standard input) or behind them."
 }
@@ -149,11 +162,22 @@ function name_of_two_words() {
   return $1 == "ship" && is_way($4) && !is_way($3) ? " A name is one word, such as " $2 "_" $3 "." : ""
 }
 
+# a length and a width in one word
+function two_numbers(    i) {
+  for (i = 2; i <= NF; i++)
+    if ($i ~ /^[0-9]+[x*,;\/][0-9]+$/) return " \"" $i "\" looks like two numbers; between them stands a space."
+  return ""
+}
+
+function class_of_format_1() {
+  return $1 == "ship" && NF == 8 && version == 1 && is_way($3) && $8 ~ /^[0-9]$/ ? " The first line is `glock 1`, so no class is read; write `glock 2` there." : ""
+}
+
 function is_way(word) { return word == "up" || word == "down" }
 
 function no_name(word) {
   return "\"" word "\" can't be a name: a name has 1 to 12 letters A to Z and a to z, digits, - or _" \
-    (word ~ /^[A-Za-z0-9_-]+$/ ? ", and this one has " length(word) "." : ".")
+    (word ~ /^[A-Za-z0-9_-]+$/ ? ", and this one has " length(word) "." : word ~ /^[ -~]+$/ ? "." : "; write ue where the letter is u with two dots, and e for one with an accent.")
 }
 
 function first_wrong_choice(    names, i, parts) {
@@ -168,9 +192,17 @@ function first_wrong_choice(    names, i, parts) {
     if (names[i] in choice) {
       split(choice[names[i]], parts, " or ")
       if ($(i + 1) != parts[1] && $(i + 1) != parts[2])
-        return "\"" $(i + 1) "\" stands where " choice[names[i]] " must stand" perhaps($(i + 1), parts[1] " " parts[2]) "." name_of_two_words()
+        return "\"" $(i + 1) "\" stands where " choice[names[i]] " must stand" perhaps(plain_choice($(i + 1), names[i]), parts[1] " " parts[2]) "." name_of_two_words()
     }
   return $1 == "close" ? "a line close needs `glock 2` or `glock 3` as the first line, and may not follow the line end." : ""
+}
+
+# upstream, downhill, lower, bottom and the like as the word that they mean
+function plain_choice(word, name) {
+  word = tolower(word)
+  if (name == "way") return word ~ /^(up|auf|berg)/ ? "up" : word ~ /^(down|ab|tal)/ ? "down" : word
+  if (name == "stand") return word ~ /^(low|bottom|down|unten)/ ? "low" : word ~ /^(high|top|up|oben)/ ? "high" : word
+  return word
 }
 
 function first_no_number(    names, i) {
@@ -186,6 +218,8 @@ function meant_number(word, name) {
   if (meaning[name] ~ /minute/)
     return word ~ /^[0-9]+:[0-9][0-9]$/ ? " Times are minutes from a moment that you choose: where it is 17:00, 17:25 is 25." : ""
   sub(/,/, ".", word)
+  sub(/m$/, "", word)
+  if (name != "most" && name != "class" && word ~ /^[0-9]+$/) return " Sizes are decimetres: " word " metres are " word "0."
   return name != "most" && name != "class" && word ~ /^[0-9]+\.[0-9]$/ ? " Sizes are decimetres: " word " metres are " word * 10 "." : ""
 }
 

@@ -48,19 +48,20 @@ bash_completion() {
 # a word and what it does, in quotes for zsh
 described() { sed "s/'/'\\\\''/g; s/:/\\\\:/g; s/\t/:/; s/.*/'&'/" | tr '\n' ' '; }
 
+# (`commands` and `options` are names of zsh's own.)
 zsh_completion() {
   echo '#compdef glock'
   echo '# Completion of glock for zsh, made by script/make_pages.sh.'
-  echo 'local -a commands options'
-  echo "commands=($(commands | described))"
+  echo 'local -a glock_commands glock_options'
+  echo "glock_commands=($(commands | described))"
   echo 'if (( CURRENT == 2 )) || [[ $CURRENT == 3 && ${words[2]} == help ]]; then'
-  echo '  _describe command commands'
+  echo '  _describe command glock_commands'
   echo '  return'
   echo 'fi'
   echo 'case ${words[2]} in'
-  commands | while IFS=$'\t' read -r command _; do echo "  $command) options=($(options "$command" | described)) ;;"; done
+  commands | while IFS=$'\t' read -r command _; do echo "  $command) glock_options=($(options "$command" | described)) ;;"; done
   echo 'esac'
-  echo '_describe -o option options'
+  echo '_describe -o option glock_options'
   echo '_files'
 }
 

@@ -22,20 +22,18 @@ function nearest(word, list,    words, n, i, far, least, found) {
   return found
 }
 
-# how many letters are put in, left out or changed between two words
-function distance(one, other,    i, j, row, before, diagonal) {
+# how many letters are put in, left out or changed between two words, or stand before the one that they should follow
+function distance(one, other,    i, j, far) {
   if (length(one) > 40 || length(other) > 40) return 99
-  for (j = 0; j <= length(other); j++) row[j] = j
+  for (j = 0; j <= length(other); j++) far[0, j] = j
   for (i = 1; i <= length(one); i++) {
-    diagonal = row[0]
-    row[0] = i
+    far[i, 0] = i
     for (j = 1; j <= length(other); j++) {
-      before = row[j]
-      row[j] = smaller(smaller(row[j], row[j - 1]) + 1, diagonal + (substr(one, i, 1) != substr(other, j, 1)))
-      diagonal = before
+      far[i, j] = smaller(smaller(far[i - 1, j], far[i, j - 1]) + 1, far[i - 1, j - 1] + (substr(one, i, 1) != substr(other, j, 1)))
+      if (i > 1 && j > 1 && substr(one, i - 1, 2) == substr(other, j, 1) substr(other, j - 1, 1)) far[i, j] = smaller(far[i, j], far[i - 2, j - 2] + 1)
     }
   }
-  return row[length(other)]
+  return far[length(one), length(other)]
 }
 
 function smaller(a, b) { return a < b ? a : b }

@@ -38,6 +38,7 @@ choose_program() {
     has_proved_programs || say "not the proved program: what is installed here was built by the kit's unproved run of commit $(commit)"
     return
   fi
+  has_sources || [ -x "$program" ] || { choose_nothing; return; }
   reason="the proved program isn't built yet"
   if [ -x "$program" ]; then
     newer=$(newer_source)
@@ -45,6 +46,20 @@ choose_program() {
     reason="${newer#"$top"/} is newer than the proved program"
   fi
   choose_unproved "$reason"
+}
+
+has_sources() { [ -f "$top/crates.txt" ] && [ -d "$crate/src" ]; }
+
+# Who copied the script alone has neither; wrong words are told all the same.
+choose_nothing() {
+  run=(unproved_run)
+  [ -z "$wrong" ] || return 0
+  say_no_sources
+  return 69
+}
+
+say_no_sources() {
+  say "neither the programs of glock nor their sources are in $top; take the whole repository, or a copy that ./glock install made"
 }
 
 # the program that an unproved run of these sources left, or a new run of the kit, or without the kit an older proved program
@@ -64,7 +79,7 @@ choose_unproved() {
 # the kit that the sources are proved with, as the README names it
 kit_of_sources() {
   if is_installed; then sed -n 's/^kit //p' "$top/BUILD"; return; fi
-  sed -n '/proved with `rattle-kit/{s/.*proved with `\([^`]*\)`.*/\1/p;q}' "$top/README.md"
+  sed -n '/proved with `rattle-kit/{s/.*proved with `\([^`]*\)`.*/\1/p;q}' "$top/README.md" 2>/dev/null | grep . || echo "a kit that README.md would name"
 }
 is_kit_of_sources() { [ "$(rt version)" = "$(kit_of_sources)" ]; }
 

@@ -5,6 +5,7 @@ prove() {
   local log=$top/out/prove.log begin=$top/out/prove.begin name way=prove_by_gate
   [ $# = 0 ] || { say "prove takes no other words"; return 2; }
   ! is_installed || { say "this copy is installed, and has no sources to prove; prove in the repository that it came from"; return 69; }
+  has_sources || { say_no_sources; return 69; }
   has_kit || { say_no_kit "proving needs the kit"; return 69; }
   if are_built; then
     say "the program is proved and built already"

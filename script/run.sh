@@ -14,7 +14,7 @@ run_program() {
   elif [ -n "$input" ]; then
     exec <"$input"
   fi
-  if shows_numbers; then
+  if asks_numbers; then
     numbers=$room/numbers
     GLOCK_PROGRESS=1 "${run[@]}" "${program_words[@]}" <&0 >"$answer" 2>"$numbers" &
   else
@@ -57,7 +57,8 @@ free_memory() {
 }
 
 # The kit's run builds the program first, which is shown in their place.
-shows_numbers() { searches "$command" && ! is_unproved_run && { $wants_progress || [ -t 2 ]; }; }
+asks_numbers() { searches "$command" && ! is_unproved_run && { shows_progress || $wants_stats; }; }
+shows_progress() { $wants_progress || [ -t 2 ]; }
 
 # Who stops the script stops the program, and the script ends by the same signal.
 stop_program() {
@@ -71,7 +72,7 @@ start_watch() {
   watch= begun=${begun:-$SECONDS}
   if is_unproved_run; then
     watch_build &
-  elif [ -t 2 ] || [ -n "$numbers" ]; then
+  elif shows_progress; then
     show_progress &
   else
     return 0
@@ -81,10 +82,11 @@ start_watch() {
 }
 
 end_watch() {
-  [ -n "$watch" ] || return 0
-  kill "$watch" 2>/dev/null
-  watch=
-  if [ -t 2 ] && [ $((SECONDS - begun)) -ge 1 ]; then printf '\r\033[K' >&2; fi
+  if [ -n "$watch" ]; then
+    kill "$watch" 2>/dev/null
+    watch=
+    if [ -t 2 ] && [ $((SECONDS - begun)) -ge 1 ]; then printf '\r\033[K' >&2; fi
+  fi
   # what the program said beside its numbers
   [ -z "$numbers" ] || grep -av '^nodes ' "$numbers" >&2
 }

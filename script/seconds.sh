@@ -24,7 +24,7 @@ run_for_seconds() {
     time_is_left && ! is_out_of_turns || break
     leave_unproved_run || break
   done
-  if [ -n "$best" ] && [ "$status" != 0 ]; then answer=$best status=1; fi
+  if [ -n "$best" ] && [ "$status" != 0 ]; then answer=$best status=1 numbers=; fi
   program_words=("${words[@]}")
 }
 

@@ -42,7 +42,10 @@ check --seconds 5 | --seconds is for solve and resume, and not for check
 replan --seconds 5 | --seconds is for solve and resume, and not for replan
 solve --progress --progress | --progress stands alone and once
 resume --progress=1 | --progress stands alone and once
-check --progress | --progress is for solve, resume and replan, and not for check
+check --progress | --progress is for solve, resume, replan and trial, and not for check
+solve --stats --stats | --stats stands alone and once
+trial --stats=1 | --stats stands alone and once
+judge --stats | --stats is for solve, resume, replan and trial, and not for judge
 solve --keep=1 | --keep stands alone
 check --keep | --keep isn't for check; check takes -o
 replan evening.lock evening.plan | replan needs --now and the minute that it is, or --from
@@ -83,16 +86,36 @@ solve -clock 17:00 | "-clock" is no option; options begin with two dashes; perha
 solve --out x | there is no option --out; perhaps --output is meant
 solve -x.lock | "-x.lock" begins with a dash, as options do; ./-x.lock names the file
 replan evening.lock evening.plan --now 9:30 --clock 06:00 | and not "9:30"; with --clock it takes a time of day too, such as 09:30
+solve --clock 5pm | and not "5pm"; perhaps 17:00 is meant
+solve --clock 17.30 | and not "17.30"; perhaps 17:30 is meant
+solve --clock 0730 | and not "0730"; perhaps 07:30 is meant
+solve --clock=7:30 | and not "7:30"; perhaps 07:30 is meant
+solve --nodes 10,000 | and not "10,000"; perhaps 10000 is meant
+solve --nodes=1e5 | and not "1e5"; perhaps 100000 is meant
+solve --seconds 60s | and not "60s"; perhaps 60 is meant
+solve --threads 4 | there is no option --threads; perhaps --workers is meant
+trial --threads 4 | there is no option --threads; trial takes
+resume --time-limit 60 | there is no option --time-limit; perhaps --seconds is meant
+lot --seed 3 | there is no option --seed; perhaps --number is meant
+solve -i evening.lock | "-i" is no option; options begin with two dashes; a file is named without an option
+solve --hlep | there is no option --hlep; perhaps --help is meant
+lot 3 12 2 | numbers follow their options, as in lot --number 1 --ships 12 --chambers 2
+trial evening.lock | trial reads no file, so "evening.lock" is one word too many; ./glock solve reads a file
+replan evening.lock evening.plan 150 | "150" is one file too many; the minute that it is follows --now
+replan evening.lock evening.plan 19:30 | "19:30" is one file too many; the minute that it is follows --now
+draw evening.lock | there is no command "draw"; perhaps picture is meant
+verify evening.lock | perhaps check is meant, which reads a dossier, or judge, which reads a plan
 replan evening.lock evening.plan --now 5 --drop gull iris | "iris" is one file too many; each ship has a --drop of its own, as in --drop gull --drop iris
 ROWS
 
-# an edit of evening.lock, the program's words, and a part of the sentence
+# an edit of evening.lock, the program's words, how the sentence begins, and a later part of it
 faulty_instance() {
   local words
   sed "$1" "$room/evening.lock" >"$room/x.lock"
   read -r -a words <<<"$2"
   call solve x.lock
   check "instance: $2" gives 3 "$2" "x.lock:${words[1]}: fault ${words[3]} ${words[4]}: $3"
+  [ -z "${4-}" ] || check "instance: $2, what to do" holds "$err" "$4"
 }
 rows faulty_instance <<'ROWS'
 4s/alva/\xff/ | line 4 fault 1 NotUtf8 | this line holds a byte that is no text
@@ -103,6 +126,12 @@ rows faulty_instance <<'ROWS'
 1s/.*/plan/ | line 1 fault 2 NoHeader | this is a plan; the file with the chambers and the ships is wanted, and no plan.
 1s/.*/optimal cost 270/ | line 1 fault 2 NoHeader | this is a report
 4s/up/north/ | line 4 fault 3 Word | "north" stands where up or down must stand.
+4s/up/upstream/ | line 4 fault 3 Word | "upstream" stands where up or down must stand; perhaps up is meant.
+3s/high/upper/ | line 3 fault 3 Word | "upper" stands where low or high must stand; perhaps high is meant.
+4s/1100 114/1100x114/ | line 4 fault 4 Count | this line has 6 words | "1100x114" looks like two numbers; between them stands a space.
+4s/$/ 3/ | line 4 fault 4 Count | this line has 8 words | The first line is `glock 1`, so no class is read; write `glock 2` there.
+4s/114/11m/ | line 4 fault 5 Number | "11m" stands for the width, which must be a whole number: digits alone, no sign, point or unit. Sizes are decimetres: 11 metres are 110.
+4s/alva/Grüße/ | line 4 fault 7 Name | "Grüße" can't be a name | digits, - or _; write ue where the letter is u with two dots
 4s/up/Up/ | line 4 fault 3 Word | "Up" stands where up or down must stand; perhaps up is meant.
 4s/ship/shp/ | line 4 fault 3 Word | no line may begin with "shp" here; lines begin with chamber, ship, close (with `glock 2` or `glock 3`) or end. Perhaps ship is meant.
 3s/high/top/ | line 3 fault 3 Word | "top" stands where low or high must stand
@@ -139,6 +168,36 @@ $s/end/plan/ | line 13 fault 3 Word | the plan begins here, and the line end bef
 1s/1/2/;4s/^/close mian 1 2\n/ | line 4 fault 13 Unknown | there is no chamber named mian above; perhaps main is meant.
 1s/1/2/;4s/^/close main 9 2\n/ | line 4 fault 14 Overlap | the closure begins at minute 9 and ends at minute 2
 ROWS
+
+# Files that are no lock's file: how the bytes are made, the program's words, and the sentence.
+printf 'PK\003\004\024\000\377\376\n' >"$room/x.xlsx"
+printf '%%PDF-1.4\n\342\343\n' >"$room/x.pdf"
+printf '\037\213\010\000\377\n' >"$room/x.gz"
+{ printf '\377\376'; sed 's/./&\x00/g;s/$/\x00/' "$room/evening.lock"; } >"$room/marked.lock"
+sed 's/./&\x00/g;s/$/\x00/' "$room/evening.lock" >"$room/wide.lock"
+sed 's/ /\xc2\xa0/g' "$room/evening.lock" >"$room/stiff.lock"
+sed '4s/ship /ship\xc2\xa0/' "$room/evening.lock" >"$room/stiff-ship.lock"
+echo '{"ships":[]}' >"$room/x.json"
+call solve two-chambers.lock --nodes 50 -o x.report
+echo '<!DOCTYPE html><html>' >"$room/x.html"
+other_file() {
+  call $1
+  check "no lock's file: $1" gives 3 "line" "$2"
+}
+rows other_file <<'ROWS'
+solve x.xlsx | x.xlsx:1: fault 1 NotUtf8: this is a spreadsheet or an archive; save its table as CSV
+solve x.pdf | x.pdf:2: fault 1 NotUtf8: this is a PDF, and a plain text is wanted.
+solve x.gz | x.gz:1: fault 1 NotUtf8: this file is compressed; unpack it first.
+solve marked.lock | marked.lock:1: fault 1 NotUtf8: this file is UTF-16; save it as plain text (UTF-8).
+solve wide.lock | wide.lock:1: fault 2 NoHeader: this file is UTF-16; save it as plain text (UTF-8).
+solve stiff.lock | stiff.lock:1: fault 2 NoHeader: between the words stand no-break spaces; write plain ones.
+solve stiff-ship.lock | stiff-ship.lock:4: fault 3 Word: between the words stand no-break spaces; write plain ones.
+solve x.json | x.json:1: fault 2 NoHeader: this is JSON; the file with the chambers and the ships is wanted
+solve x.html | x.html:1: fault 2 NoHeader: this is a page, as picture makes one, and no text
+play x.report evening.lock | x.report:1: fault 2 NoHeader: a report begins here; the file with the chambers and the ships comes first
+ROWS
+call judge evening.lock x.html
+check "a page in a plan's place" gives 10 "plan line 1 fault 2 NoMark" "x.html:1: fault 2 NoMark: this is a page, as picture makes one; the plan's text or its report is wanted."
 
 # a format, a number of ships for the chambers of the evening, the program's words, and a part of the sentence
 many_ships() {
@@ -240,6 +299,17 @@ end
 certificate
 {"cost":120,"cuts":[{"chamber":0,"ships":[0,1],"why":[1,0,1]}],"plan":[{"chamber":0,"ships":[0],"spots":[[10,0,0,0]],"start":0,"way":0},{"chamber":0,"ships":[1],"spots":[[10,0,0,0]],"start":50,"way":0}],"tree":[0,0,100,1,1]}
 DOSSIER
+
+# what is no dossier
+no_dossier() {
+  call $1
+  check "no dossier: $1" gives 7 "dossier fault 1 Instance" "$2"
+}
+rows no_dossier <<'ROWS'
+resume x.report | x.report:1: fault 2 NoHeader: this is a report, and resume reads a dossier: ./glock solve --keep writes an open one
+check x.report | x.report:1: fault 2 NoHeader: this is a report, and check reads a dossier: ./glock solve --dossier writes one.
+lower evening.plan | evening.plan:2: fault 2 NoHeader: this is a plan, and lower reads a dossier: ./glock solve --keep
+ROWS
 
 # an edit of a dossier, the program's words, and a part of the message
 bad_dossier() {

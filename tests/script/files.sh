@@ -161,11 +161,12 @@ no_file() {
   check "refused: $1" gives "$2" "" "${3-}"
 }
 mkdir "$room/folder"
+: >"$room/folder/day.lock"
 rows no_file <<'ROWS'
 solve evening.lock -o evening.lock | 73 | evening.lock is read, so -o must name another file
 solve evening.lock -o folder | 73 | is a folder
 solve evening.lock -o nofolder/x | 73 | there is no folder
-solve folder | 66 | folder is a folder
+solve folder | 66 | folder is a folder; one file at a time is read, such as folder/day.lock
 solve evening.lock -o /dev/null | 0 |
 solve evening.lock -o /dev/full | 5 | evening.lock: write fault: not all of the answer could be written to /dev/full: No space left on device
 ROWS
@@ -326,7 +327,8 @@ replan --help | 0 | ./glock replan [FILE PLAN]
 prove --help | 0 | ./glock prove
 --version | 0 | proved with rattle-kit
 -V | 0 | proved with rattle-kit
-help nothing | 2 | | there is no help on "nothing"
+help nothing | 2 | | there is no help on "nothing"; there is on solve
+help solv | 2 | | there is no help on "solv"; perhaps solve is meant
 ROWS
 
 # Each command has a help, and its example works.

@@ -75,5 +75,27 @@ glock replan --no | --now --nodes
 glock replan --dr | --drop
 glock replan --pl | --plan-text
 ROWS
-check "a completion for zsh" grep -q "solve) options=('--nodes:" "$room/moved/share/zsh/site-functions/_glock"
+# What zsh would be handed, word by word.
+if command -v zsh >/dev/null; then
+  cat >"$room/hand_on.zsh" <<'ZSH'
+_describe() { print -rl -- ${(P)@[-1]}; }
+_files() { print files; }
+words=(glock "${@[2,-1]}")
+CURRENT=$#words
+source $1
+ZSH
+  handed_on() {
+    out=$(zsh -f "$room/hand_on.zsh" "$room/moved/share/zsh/site-functions/_glock" $1 2>&1)
+    check "zsh: $1" holds "$out" "$2"
+  }
+  rows handed_on <<'ROWS'
+so | solve:finds a cheapest plan
+help so | solve:finds a cheapest plan
+replan --n | --now:
+solve x --c | --clock:
+solve x | files
+ROWS
+else
+  echo "left out: zsh isn't here, so its completions weren't tried"
+fi
 check "the version of CITATION.cff" grep -q "^version: $(head -n 1 "$top/VERSION")$" "$top/CITATION.cff"

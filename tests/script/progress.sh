@@ -18,7 +18,8 @@ slow_progress() {
   check "progress: $1, what is said beside" holds "$err" "said beside"
 }
 rows slow_progress <<ROWS
-solve --progress evening.lock | glock: 0:02 min, $shown
+solve --progress evening.lock | min, $shown
+trial --progress | min, $shown
 replan evening.lock evening.plan --from 150 --progress | min, $shown
 ROWS
 check "progress: what the program tells isn't shown as it is" lacks "$err" nodes
@@ -33,12 +34,37 @@ check "progress: the same answer" [ "$(GLOCK_PROGRESS=1 plain)" = "$wanted" ]
 check "progress: the program's numbers" grep -Eqx 'nodes [0-9]+ cost [0-9]+ low [0-9]+' "$room/err"
 check "progress: its numbers alone" [ "$(grep -Evcx 'nodes [0-9]+ cost [0-9]+ low [0-9]+' "$room/err")" = 0 ]
 
+# --stats says at the end what the search took, and shows nothing before; what is printed stays the same.
+stats() {
+  TAKES=1 GLOCK_PROGRAM=$room/slow call $1
+  check "stats: $1" gives 0 "optimal cost 400" "of the processor "
+  check "stats: $1, by the clock" grep -Eq '^glock: stats seconds [1-9][0-9]*[.][0-9]{2} of the processor [0-9]+[.][0-9]{2} workers' "$room/err"
+  check "stats: $1, workers and numbers" holds "$err" "workers $2; told last: steps 12 cost 400 low 391"
+  check "stats: $1, nothing else" [ "$(wc -l <"$room/err")" = 2 ]
+}
+rows stats <<'ROWS'
+solve --stats evening.lock | 2
+solve evening.lock --workers 3 --stats | 3
+solve --workers=8 --stats evening.lock --clock 17:00 | 8
+trial --stats | 1
+ROWS
+call solve evening.lock --workers 1 --dossier
+wanted=$out
+call solve evening.lock --workers 1 --dossier --stats
+check "stats: of a dossier" gives 0 "$wanted" "glock: stats ships       9"
+check "stats: its cuts by names" holds "$err" "glock: stats cut 0       side row cora dina"
+call solve --stats --seconds 1 --workers 1 long.lock
+check "stats: of an end by the clock" gives 1 "open nodes" "glock: stats seconds "
+check "stats: not of the run that was stopped" lacks "$err" "told last"
+call solve --stats bad.lock
+check "stats: of a refusal" gives 3 "fault" "glock: stats seconds "
+
 # On a terminal the line is drawn over, and is gone at the end and after an interrupt.
 on_terminal() { typed=$(cd "$room" && GLOCK_PROGRAM=$room/slow script -qec "$1" /dev/null </dev/null | tr -d '\0\n'); }
 if script -qec true /dev/null >/dev/null 2>&1; then
   on_terminal "$top/glock solve evening.lock >/dev/null"
-  check "progress: on a terminal" holds "$typed" $'\r\033[Kglock: 0:02 min, '"$shown"
+  check "progress: on a terminal" holds "${typed/0:0[2-9] min/0:02 min}" $'\r\033[Kglock: 0:02 min, '"$shown"
   check "progress: gone at the end" holds "$typed" $'%\r\033[Ksaid beside\r'
-  TAKES=30 on_terminal "timeout --foreground -s INT 4 $top/glock solve evening.lock"
+  TAKES=30 on_terminal "timeout --foreground -s INT 9 $top/glock solve evening.lock"
   check "progress: gone after an interrupt" holds "$typed" $'%\r\033[Ksaid beside\r'
 fi

@@ -135,6 +135,7 @@ rows wrong_call <<'ROWS'
 | plan_of_dossier.awk | cut.dossier | 1 | its plan is damaged or cut off | berth
 | plan_of_dossier.awk | evening.dossier | 0 | | lockage main up 0
 | plan_of_report.awk | evening.lock | 1 | plan_of_report: this is no report: it has no lockage
+| plan_of_report.awk | 1700.report | 1 | give the lock's file, as -v lock=evening.lock, or the time of minute 0, as -v begin=17:00 | plan
 | plan_of_report.awk | evening.plan | 1 | line 3 is no line of a report; perhaps this is a plan text already
 ROWS
 { echo name,way,length,width,arrival; printf 's%s,up,50,6,0\n' {1..25}; } >"$room/ships.csv"
@@ -156,3 +157,30 @@ rows table_of_report <<'ROWS'
 -v separator=; -v decimal=, | 1700.report | 2;side;up;17:10;17:35;brio;1,0;0,0;left;quay;35;10
 -v decimal=, | plain.report | 1,main,up,0,35,alva,"1,0","0,0",left,quay,35,0
 ROWS
+
+# The chambers of the next day, of a report with minutes, one with times of day, and a plan.
+sed '1s/1/2/;3s/$/\nclose side 290 400\nclose main 10 20/' "$room/evening.lock" >"$room/closed.lock"
+next_day() {
+  out=$(cd "$room" && awk $1 -f "$top/examples/next_day.awk" $2 2>err)
+  status=$? err=$(<"$room/err")
+  check "the day after: $1 $2" gives "$3" "$4" "${5-}"
+}
+rows next_day <<'ROWS'
+-v lock=evening.lock -v minute=300 | plain.report | 0 | chamber side 1360 160 10 20 5 4 20 10 low 55
+-v lock=evening.lock -v minute=300 | 1700.report | 0 | chamber side 1360 160 10 20 5 4 20 10 low 55
+-v lock=evening.lock -v minute=300 | evening.plan | 0 | chamber side 1360 160 10 20 5 4 20 10 low 55
+-v lock=evening.lock -v minute=300 | crlf.report | 0 | chamber main 2000 240 10 20 5 6 30 15 low 0
+-v lock=evening.lock | plain.report | 0 | chamber side 1360 160 10 20 5 4 20 10 low 0
+-v lock=closed.lock -v minute=300 | plain.report | 0 | close side 0 100
+| plain.report | 1 | | next_day: name the lock's file of the day, as -v lock=monday.lock
+-v lock=nolock | plain.report | 1 | | next_day: the lock's file nolock can't be read
+-v lock=evening.lock -v minute=x | plain.report | 1 | | minute must be a whole number, and not "x"
+-v lock=two-chambers.lock | plain.report | 1 | | line 2: there is no chamber main in two-chambers.lock
+-v lock=evening.lock | evening.lock | 1 | | it has no lockage
+-v lock=evening.lock | cut.report | 1 | | it has no line end
+ROWS
+printf 'name,way,length,width,arrival\nalva,down,110,11.4,0\n' >"$room/ships.csv"
+(cd "$room" && awk -v lock=evening.lock -v minute=150 -f "$top/examples/next_day.awk" plain.report >half.lock &&
+  awk -v lock=half.lock -f "$top/examples/lock_of_csv.awk" ships.csv >late.lock)
+call solve late.lock
+check "a day after with ships of a table" gives 0 "optimal cost" ""

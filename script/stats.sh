@@ -1,0 +1,51 @@
+# What --stats says at the end, on standard error: the time that the program took, what it told last of its search, and what
+# stands in a dossier that it printed.
+
+# before the program runs, and after it
+begin_stats() { note_times begun; }
+end_stats() { note_times ended; }
+
+# A subshell has times of its own, so they are written to a file.
+note_times() {
+  $wants_stats || return 0
+  times >"$room/$1"
+  echo "${EPOCHREALTIME:-$SECONDS}" >>"$room/$1"
+}
+
+# from the first to the second file: milliseconds by the clock, and of the processor of all that the script started and that ended
+times_between() {
+  LC_ALL=C awk '
+    { gsub(/,/, ".") }
+    FNR == 2 { for (i = 1; i <= 2; i++) { split($i, part, "m"); cpu[FILENAME] += part[1] * 60000 + part[2] * 1000 } }
+    FNR == 3 { wall[FILENAME] = $1 * 1000 }
+    END { printf "%d %d\n", wall[ARGV[2]] - wall[ARGV[1]], cpu[ARGV[2]] - cpu[ARGV[1]] }' "$room/begun" "$room/ended"
+}
+
+tell_stats() {
+  local wall cpu
+  $wants_stats && [ -z "$wrong" ] || return 0
+  read -r wall cpu < <(times_between)
+  say "stats seconds $(as_seconds "$wall") of the processor $(as_seconds "$cpu") workers $(count_of_workers)$(last_numbers)"
+  if is_dossier; then LC_ALL=C awk -f "$script/stats.awk" "$answer" | sed 's/^/glock: stats /' >&2; fi
+}
+
+as_seconds() { printf '%d.%02d' $(($1 / 1000)) $(($1 % 1000 / 10)); }
+
+# as the program's help gives them where none are asked for
+count_of_workers() {
+  local i
+  for ((i = 0; i < ${#program_words[@]}; i++)); do
+    case ${program_words[i]} in
+      --workers) echo "${program_words[i + 1]}"; return ;;
+      --workers=*) echo "${program_words[i]#*=}"; return ;;
+    esac
+  done
+  if [ "$command" = trial ]; then echo 1; else echo 2; fi
+}
+
+# The program tells them once a second, so the search may have gone on since.
+last_numbers() {
+  local line
+  line=$([ -z "$numbers" ] || grep -a '^nodes ' "$numbers" | tail -n 1)
+  [ -z "$line" ] || echo "; told last: ${line/nodes/steps}"
+}
