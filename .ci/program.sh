@@ -22,6 +22,15 @@ a_cheaper_claim_is_rejected() {
   [ "$status" = 7 ] && [ "$answer" = "rejected cost reason 2 CostWrong" ]
 }
 
+# a day of 96 ships, whose root a sweep closes, since missing ships count at their soonest
+a_long_day_is_solved() {
+  local day report answer
+  day=$(./glock lot --number 2 --ships 96 --chambers 2) || return 1
+  report=$(./glock solve <<<"$day" | head -n 1)
+  answer=$(./glock solve --dossier <<<"$day" | ./glock check) || return 1
+  [ "$report" = "optimal cost 3397" ] && [ "$answer" = "accepted cost 3397" ]
+}
+
 # the second checker judges the dossier of the longest queue within a minute of a processor
 second_checker_is_in_time() {
   local dossier=out/queue-24.dossier answer
