@@ -8,7 +8,7 @@ use price_bound::{KeptLines, PricedNode, show};
 use price_terms::{ChamberCut, Limits, Prices, Shown, Swept};
 use std::alloc::Global;
 use std::test::Fail;
-use sweep::{SweepAsked, SweepEnd, SweepLimits, sweep};
+use sweep::{SweepAsked, SweepEnd, SweepLimits, SweepOutcome, sweep};
 use worked_locks::{pair, two_ships};
 
 const LIMITS: Limits = Limits {
@@ -22,6 +22,14 @@ const SWEEP_LIMITS: SweepLimits = SweepLimits {
     groups: 100,
     turns: 10_000,
 };
+
+// The cost that a sweep shows, where it found no cheaper plan.
+fn swept_of(end: SweepEnd<'_>) -> Result<Swept<'_>, Fail> {
+    match end {
+        SweepEnd::Swept(swept) => Ok(swept),
+        SweepEnd::Cheaper { .. } => Err("not swept".into()),
+    }
+}
 
 /// So much for each of both ships.
 pub(crate) fn both_prices(price: u32) -> Option<Prices> {
@@ -75,9 +83,7 @@ impl PricedRoot {
             first: cost,
             goal: cost,
         };
-        match sweep(alloc, &asked, SWEEP_LIMITS)?.end {
-            SweepEnd::Swept(swept) => Ok(swept),
-            SweepEnd::Cheaper { .. } => Err("not swept".into()),
-        }
+        let SweepOutcome { end, .. } = sweep(alloc, &asked, SWEEP_LIMITS)?;
+        swept_of(end)
     }
 }

@@ -15,10 +15,10 @@ const EQUAL: &[u8; 168] =
 // The longest that a gate looks.
 const LOOKS: u64 = 10_000_000;
 
-// The case of an instance text, with the budgets of a plain run.
+// The case of an instance text, with a budget of nodes that workers share.
 fn case_from(text: &[u8]) -> Result<Case, Fail> {
     let instance = read_instance(text).map_err(|_| "no instance")?;
-    Ok(case_of(instance, 100_000, 20_000).ok_or("no case")?)
+    Ok(case_of(instance, 1_000, 20_000).ok_or("no case")?)
 }
 
 #[test]
