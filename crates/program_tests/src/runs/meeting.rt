@@ -27,8 +27,8 @@ const NO_PLAN: &[u8] = b"plan\nend\n";
 const KEEP: &[&str] = &["solve", "--nodes", "1", "--keep", "--workers", "1"];
 
 // Workers share the nodes of a budget that is searched without prices; of a larger one the first nodes are
-// one thread's.
-const SMALL_BUDGET: &str = "1000";
+// one thread's. To a search that goes on the nodes before count too.
+const SMALL_BUDGET: &str = "900";
 
 const LARGE_BUDGET: &str = "100000";
 
