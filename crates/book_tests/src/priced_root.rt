@@ -27,7 +27,10 @@ const SWEEP_LIMITS: SweepLimits = SweepLimits {
 fn swept_of(end: SweepEnd<'_>) -> Result<Swept<'_>, Fail> {
     match end {
         SweepEnd::Swept(swept) => Ok(swept),
-        SweepEnd::Cheaper { .. } => Err("not swept".into()),
+        SweepEnd::Cheaper {
+            plan: _plan,
+            swept: _swept,
+        } => Err("not swept".into()),
     }
 }
 
