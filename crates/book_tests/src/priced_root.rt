@@ -83,10 +83,11 @@ impl PricedRoot {
             instance: &self.instance,
             cuts: &self.cuts,
             prices: &self.prices,
+            low: cost,
             first: cost,
             goal: cost,
         };
         let SweepOutcome { end, .. } = sweep(alloc, &asked, SWEEP_LIMITS)?;
-        swept_of(end)
+        swept_of(end.ok_or("too many labels")?)
     }
 }

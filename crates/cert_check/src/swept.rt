@@ -9,14 +9,15 @@ use no_memory::NoMemory;
 use std::alloc::Global;
 use sweep::{SweepAsked, SweepEnd, sweep};
 
-// Whether a sweep of the certificate's cost found no uncut plan below it.
-fn ends_swept(claim: &Claim, end: &SweepEnd) -> bool
+// Whether a sweep of the certificate's cost found no uncut plan below it; refused where it ran out of labels.
+fn ends_swept(claim: &Claim, end: &Option<SweepEnd>) -> Result<bool, NoMemory>
     requires { EndsSweep claim.now end.now }
-    ensures { IsTrue result ↔ HasSweptCost claim.now }
+    ensures { IfOk result (λ swept. IsTrue swept ↔ HasSweptCost claim.now) }
 {
     match end {
-        SweepEnd::Swept(swept) => swept.cost() == claim.cost,
-        SweepEnd::Cheaper { .. } => false,
+        None => Err(NoMemory),
+        Some(SweepEnd::Swept(swept)) => Ok(swept.cost() == claim.cost),
+        Some(SweepEnd::Cheaper { .. }) => Ok(false),
     }
 }
 
@@ -31,11 +32,12 @@ fn is_cost_swept(alloc: Global, claim: &Claim, number: usize) -> Result<bool, No
         instance: claim.instance,
         cuts: claim.chamber_cuts,
         prices: &prices,
+        low: claim.cost,
         first: claim.cost,
         goal: claim.cost,
     };
     match sweep(alloc, &asked, SWEEP_ROOM) {
-        Ok(outcome) => Ok(ends_swept(claim, &outcome.end)),
+        Ok(outcome) => ends_swept(claim, &outcome.end),
         Err(_) => Err(NoMemory),
     }
 }

@@ -1,6 +1,7 @@
 //! Where a search carries out what prices find.
 
 use crate::found::Found;
+use crate::placing::UncutGroups;
 use crate::pricing::Pricing;
 use crate::round::Round;
 use deck_cuts::Cut;
@@ -9,7 +10,6 @@ use master_branch::Node;
 use placed_groups::Memory;
 use price_terms::{Prices, Shown, Swept};
 use std::alloc::Global;
-use sweep::UncutPlan;
 
 /// A slot that is held, and its node.
 #[derive(Clone, Copy)]
@@ -81,13 +81,13 @@ pub trait Desk {
         ensures serves { serves self.now hand.new }
         ensures holds { Stays (holds self.now held.now) hand.old hand.new };
 
-    /// Places the groups of an uncut plan, with the cuts that are known here.
+    /// Places uncut groups, with the cuts that are known here.
     fn place(
         &self,
         hand: &mut Self::Hand,
         memory: &mut Memory,
         held: &InHand<'_>,
-        plan: UncutPlan,
+        groups: UncutGroups<'_>,
     ) -> Result<Found, Self::Stop>
         requires serves { serves self.now hand.old }
         requires node { IsNodeOf (instance self.now) held.now.node.now }

@@ -46,6 +46,6 @@ pub use carrying::price;
 pub use desk::{Desk, InHand};
 pub use found::Found;
 pub use offers::{Offer, Offers};
-pub use placing::place_uncut;
+pub use placing::{UncutGroups, place_uncut};
 pub use pricing::{FirstNode, Pricing};
 pub use round::{Asked, LIMITS, Round, RoundEnd};

@@ -6,13 +6,14 @@ use crate::found::Found;
 use crate::round::Asked;
 use deck_cuts::{Cut, cut_hits};
 use lock_model::{Instance, Ships, Spots};
-use near_plan::{Fitting, near_plan};
+use near_plan::{Fitting, fits, near_plan};
 use no_memory::NoMemory;
 use node_work::{FirstPlacer, KnownCuts, Search, Settled, settle_known};
 use placed_groups::Memory;
 use price_terms::{LooseLine, LooseLines};
 use std::alloc::Global;
-use sweep::UncutPlan;
+use sweep::{UncutPlan, group_of};
+use sweep_labels::KeptLabel;
 
 /// The placers, as prices ask them. What was found before is remembered, and cuts are looked at first;
 /// new cuts are kept.
@@ -88,6 +89,15 @@ impl<K: KnownCuts> Fitting for Placer<'_, '_, K> {
     }
 }
 
+/// Groups that a sweep found, of which no cut is known.
+#[derive(Drop)]
+pub enum UncutGroups<'l> {
+    /// Those of a plan.
+    Plan(UncutPlan),
+    /// Those by which labels went on: all of nearly cheapest plans are among them.
+    Steps(&'l [KeptLabel]),
+}
+
 // The lines of an uncut plan as loose ones.
 fn loose_lines(alloc: Global, plan: UncutPlan) -> Result<LooseLines, NoMemory> {
     let mut lines = Vec::new(alloc);
@@ -97,23 +107,62 @@ fn loose_lines(alloc: Global, plan: UncutPlan) -> Result<LooseLines, NoMemory> {
     Ok(LooseLines { lines, sum: 0 })
 }
 
-/// Places the groups of an uncut plan: it is a plan then, which is found where it is cheaper than the best
-/// one, and each group that doesn't fit gives a cut. Its only refusal is want of memory.
+// Places the group by which a label went on.
+fn place_step<K: KnownCuts>(
+    instance: &Instance,
+    labels: &[KeptLabel],
+    kept: &KeptLabel,
+    placer: &mut Placer<'_, '_, K>,
+) -> Result<(), NoMemory>
+    requires { placer.old.search.now.instance.now ≡ instance.now }
+    ensures { placer.new.search.now.instance.now ≡ instance.now }
+{
+    let Some(parent) = kept.parent else {
+        return Ok(());
+    };
+    let Some(before) = labels.get(parent as usize) else {
+        return Ok(());
+    };
+    let group = group_of(instance, kept, before);
+    fits(instance, kept.chamber, &group.ships, placer)?;
+    Ok(())
+}
+
+// Places the groups by which labels went on.
+fn place_steps<K: KnownCuts>(
+    instance: &Instance,
+    labels: &[KeptLabel],
+    placer: &mut Placer<'_, '_, K>,
+) -> Result<(), NoMemory>
+    requires { placer.old.search.now.instance.now ≡ instance.now }
+    ensures { placer.new.search.now.instance.now ≡ instance.now }
+{
+    for kept in labels {
+        place_step(instance, labels, kept, placer)?;
+    }
+    Ok(())
+}
+
+/// Places uncut groups: each that doesn't fit gives a cut. Those of a plan are a plan then, which is found
+/// where it is cheaper than the best one. Its only refusal is want of memory.
 pub fn place_uncut<K: KnownCuts>(
     alloc: Global,
     asked: &Asked<'_, K>,
     memory: &mut Memory,
-    plan: UncutPlan,
+    groups: UncutGroups<'_>,
 ) -> Result<Found, NoMemory> {
-    let lines = loose_lines(alloc, plan)?;
+    let instance = asked.search.instance;
     let mut placer = Placer::new(alloc, asked, memory);
-    let plan = near_plan(
-        alloc,
-        asked.search.instance,
-        &lines,
-        asked.best,
-        &mut placer,
-    )?;
+    let plan = match groups {
+        UncutGroups::Plan(plan) => {
+            let lines = loose_lines(alloc, plan)?;
+            near_plan(alloc, instance, &lines, asked.best, &mut placer)?
+        }
+        UncutGroups::Steps(labels) => {
+            place_steps(instance, labels, &mut placer)?;
+            None
+        }
+    };
     Ok(Found {
         cuts: placer.found,
         plan,

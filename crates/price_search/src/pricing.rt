@@ -15,7 +15,7 @@ use price_bound::{KeptLines, PricedNode, show};
 use price_raise::{Ascent, Pace};
 use price_terms::{ChamberCut, Prices, Shown};
 use std::alloc::Global;
-use sweep::{SweepAsked, SweepEnd, SweepLimits, SweepOutcome, sweep};
+use sweep::{SweepAsked, SweepLimits, SweepOutcome, sweep};
 
 // The most rounds in a search.
 const MOST_ROUNDS: u32 = 10_000;
@@ -350,16 +350,16 @@ impl Pricing {
         }
     }
 
-    /// Sweeps the best cost by these prices and the book's first cuts. None where that takes more than
-    /// `LIMITS`, more labels for a cost than so many, or more for all costs than some times that or those that
-    /// are left, or for want of memory; then the labels that it might have made are spent.
+    /// Sweeps the best cost by these prices and the book's first cuts, with no more labels for a cost than so many,
+    /// and for all costs than some times that and those that are left. None where that takes more than
+    /// `LIMITS`, or for want of memory; then the labels that it might have made are spent.
     pub(crate) fn sweep<'a>(
         &'a mut self,
         alloc: Global,
         instance: &'a Instance,
         prices: &'a Prices,
         goals: &Goals,
-    ) -> Option<SweepEnd<'a>> {
+    ) -> Option<SweepOutcome<'a>> {
         let all = self
             .labels
             .min(goals.labels.saturating_mul(COSTS_OF_A_SWEEP));
@@ -367,6 +367,7 @@ impl Pricing {
             instance,
             cuts: self.cuts.as_slice(),
             prices,
+            low: goals.low,
             first: goals.reached,
             goal: goals.best,
         };
@@ -377,9 +378,9 @@ impl Pricing {
             turns: LIMITS.turns,
         };
         match sweep(alloc, &asked, limits) {
-            Ok(SweepOutcome { end, labels }) => {
-                self.labels = self.labels.saturating_sub(labels);
-                Some(end)
+            Ok(outcome) => {
+                self.labels = self.labels.saturating_sub(outcome.labels);
+                Some(outcome)
             }
             Err(_) => {
                 self.labels = self.labels.saturating_sub(all);

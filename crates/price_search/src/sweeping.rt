@@ -4,19 +4,22 @@ ghost use Rattle.price_search.specs.Holding.{Stays, Ends, was_closed, was_ended}
 
 use crate::desk::{Desk, InHand};
 use crate::found::carry_out;
+use crate::placing::UncutGroups;
 use crate::pricing::Pricing;
 use placed_groups::Memory;
 use price_terms::{Prices, Swept};
-use sweep::{SweepEnd, UncutPlan};
+use sweep::{SweepEnd, SweepOutcome};
+use sweep_labels::KeptLabel;
 
 // The most sweeps at the root.
 const MOST_SWEEPS: u32 = 200;
 
-/// Costs, in minutes: one that prices or a sweep have reached, and the best one, which is to be swept with so
-/// many labels for one cost at the most. What a sweep takes hangs on how far its cost is above what prices
-/// reach, so costs are swept from there.
+/// Costs, in minutes: what prices reach, what prices or a sweep have reached, and the best one, which is to be
+/// swept with so many labels for one cost at the most. What a sweep takes hangs on how far its cost is above
+/// what prices reach.
 #[derive(Clone, Copy)]
 pub(crate) struct Goals {
+    pub(crate) low: u64,
     pub(crate) reached: u64,
     pub(crate) best: u64,
     pub(crate) labels: u64,
@@ -55,48 +58,57 @@ fn close_swept<D: Desk>(
     }
 }
 
-// Places the groups of an uncut plan that a sweep found: it is a better plan, or there are new cuts; whether
-// there is either.
+// Places uncut groups that a sweep found; whether that gave a better plan or new cuts.
 fn place<D: Desk>(
     desk: &D,
     hand: &mut D::Hand,
     memory: &mut Memory,
     held: &InHand<'_>,
-    plan: UncutPlan,
+    groups: UncutGroups<'_>,
 ) -> Result<bool, D::Stop>
     requires serves { D.serves desk.now hand.old }
     requires node { IsNodeOf (D.instance desk.now) held.now.node.now }
     ensures serves { D.serves desk.now hand.new }
     ensures holds { Stays (D.holds desk.now held.now) hand.old hand.new }
 {
-    let found = desk.place(hand, memory, held, plan)?;
+    let found = desk.place(hand, memory, held, groups)?;
     let is_new = !found.is_empty();
     carry_out(desk, hand, held, found)?;
     Ok(is_new)
 }
 
+// The cost of an uncut plan, which was swept by these prices, and the labels that were made for it.
+#[derive(Drop)]
+struct PlanCost<'a, 'p> {
+    swept: Swept<'a>,
+    prices: &'p Prices,
+    labels: Vec<KeptLabel>,
+}
+
 // What becomes of the held root once the uncut plan of a cost that was swept is placed: where it is the best
-// plan, that closes it. Where nothing was new, the next sweep would find the same.
+// plan, that closes it. Where nothing was new, the next sweep would find the same; else it finds no plan of
+// groups that don't fit, as far as labels went on by them.
 fn end_placed<D: Desk>(
     desk: &D,
     hand: &mut D::Hand,
+    memory: &mut Memory,
     held: &InHand<'_>,
-    prices: &Prices,
-    swept: &Swept<'_>,
+    cost: &PlanCost<'_, '_>,
     is_new: bool,
 ) -> Result<AfterSweep, D::Stop>
     requires serves { D.serves desk.now hand.old }
+    requires node { IsNodeOf (D.instance desk.now) held.now.node.now }
     ensures serves { D.serves desk.now hand.new }
     ensures ends { Ends (D.holds desk.now held.now) (D.freed desk.now) hand.old hand.new (was_ended result) }
 {
-    if desk.best_cost(hand, held) == swept.cost() {
-        return close_swept(desk, hand, held, prices, swept);
+    if desk.best_cost(hand, held) == cost.swept.cost() {
+        return close_swept(desk, hand, held, cost.prices, &cost.swept);
     }
-    if is_new {
-        Ok(AfterSweep::Again)
-    } else {
-        Ok(AfterSweep::Open)
+    if !is_new {
+        return Ok(AfterSweep::Open);
     }
+    place(desk, hand, memory, held, UncutGroups::Steps(&cost.labels))?;
+    Ok(AfterSweep::Again)
 }
 
 // Sweeps the best cost, and carries out what that shows.
@@ -116,13 +128,31 @@ fn sweep_once<D: Desk>(
     desk.learn(hand, pricing, held)?;
     goals.best = desk.best_cost(hand, held);
     let prices = pricing.ascent.best().copy();
-    match pricing.sweep(desk.alloc(), desk.instance(), &prices, goals) {
-        None => Ok(AfterSweep::Open),
+    let Some(
+        SweepOutcome {
+            end,
+            last: labels,
+            ..
+        },
+    ) = pricing.sweep(desk.alloc(), desk.instance(), &prices, goals)
+    else {
+        return Ok(AfterSweep::Open);
+    };
+    match end {
+        None => {
+            place(desk, hand, memory, held, UncutGroups::Steps(&labels))?;
+            Ok(AfterSweep::Open)
+        }
         Some(SweepEnd::Swept(swept)) => close_swept(desk, hand, held, &prices, &swept),
         Some(SweepEnd::Cheaper { plan, swept }) => {
             goals.reached = swept.cost();
-            let is_new = place(desk, hand, memory, held, plan)?;
-            end_placed(desk, hand, held, &prices, &swept, is_new)
+            let is_new = place(desk, hand, memory, held, UncutGroups::Plan(plan))?;
+            let cost = PlanCost {
+                swept,
+                prices: &prices,
+                labels,
+            };
+            end_placed(desk, hand, memory, held, &cost, is_new)
         }
     }
 }
@@ -142,8 +172,10 @@ pub(crate) fn sweep_root<D: Desk>(
     ensures serves { D.serves desk.now hand.new }
     ensures ends { Ends (D.holds desk.now held.now) (D.freed desk.now) hand.old hand.new (was_closed result) }
 {
+    let low = pricing.reached();
     let mut goals = Goals {
-        reached: pricing.reached(),
+        low,
+        reached: low,
         best: 0,
         labels,
     };

@@ -16,14 +16,15 @@ use lock_model::{Instance, Plan};
 use master_branch::Node;
 use node_work::Fate;
 use placed_groups::Memory;
-use price_search::{Asked, Desk, Found, InHand, Offer, Pricing, Round, place_uncut, price};
+use price_search::{
+    Asked, Desk, Found, InHand, Offer, Pricing, Round, UncutGroups, place_uncut, price,
+};
 use price_terms::{Prices, Shown, Swept};
 use search_book::{Closing, Event, Finding};
 use std::alloc::Global;
 use std::mem;
 use std::sync::Wait;
 use std::sync::ledger::Ledger;
-use sweep::UncutPlan;
 
 /// Whether prices are to be asked before a node of this depth ends by this fate: one that would be
 /// split, where there are prices that may serve.
@@ -107,7 +108,7 @@ impl<L: Ledger, W: Wait, G: Gate> Desk for Post<'_, L, W, G> {
         worker: &mut Worker<L>,
         memory: &mut Memory,
         held: &InHand<'_>,
-        plan: UncutPlan,
+        groups: UncutGroups<'_>,
     ) -> Result<Found, Stop> {
         let best = best_cost(self, worker);
         let known = posted_cuts(self.pool, &worker.tokens);
@@ -117,7 +118,7 @@ impl<L: Ledger, W: Wait, G: Gate> Desk for Post<'_, L, W, G> {
             best,
             known: &known,
         };
-        Ok(place_uncut(self.alloc, &asked, memory, plan)?)
+        Ok(place_uncut(self.alloc, &asked, memory, groups)?)
     }
 
     fn post(&self, worker: &mut Worker<L>, _held: &InHand<'_>, cut: Cut) -> Result<(), Stop> {

@@ -15,11 +15,10 @@ use lock_model::{Instance, Plan};
 use no_memory::NoMemory;
 use node_work::Search;
 use placed_groups::Memory;
-use price_search::{Asked, Desk, Found, InHand, Pricing, Round, place_uncut};
+use price_search::{Asked, Desk, Found, InHand, Pricing, Round, UncutGroups, place_uncut};
 use price_terms::{Prices, Shown, Swept};
 use search_book::learn_cuts;
 use std::alloc::Global;
-use sweep::UncutPlan;
 
 // That the refutation of a cut holds, as its type keeps.
 fn is_cut(cut: &Cut)
@@ -130,7 +129,7 @@ impl<G: Gate> Desk for DriversDesk<'_, G> {
         book: &mut Book,
         memory: &mut Memory,
         held: &InHand<'_>,
-        plan: UncutPlan,
+        groups: UncutGroups<'_>,
     ) -> Result<Found, NoMemory> {
         let asked = Asked {
             search: self.search,
@@ -138,7 +137,7 @@ impl<G: Gate> Desk for DriversDesk<'_, G> {
             best: book.best_cost(),
             known: &*book,
         };
-        place_uncut(self.alloc, &asked, memory, plan)
+        place_uncut(self.alloc, &asked, memory, groups)
     }
 
     fn post(&self, book: &mut Book, _held: &InHand<'_>, cut: Cut) -> Result<(), NoMemory> {

@@ -11,6 +11,7 @@ use Rattle.lock_rules.specs.Trace.{has_number}
 use Rattle.lock_rules.proofs.LeafLemmas.{has_number-some}
 use Rattle.lock_rules.proofs.LineLemmas.{numbers_more}
 use Rattle.lock_rules.proofs.SplitLemmas.{has_number-none}
+use Rattle.price_rules.specs.Prices.{PriceList, PlainCut}
 use Rattle.price_groups.specs.Asks.{LineAsk, line_ask}
 use Rattle.sweep_rules.specs.Label.{Label}
 use Rattle.sweep_rules.specs.Gain.{IsGain, ships_missing}
@@ -18,16 +19,17 @@ use Rattle.sweep_rules.proofs.MissingLemmas.{missing-one, missing-none, missing-
 use Rattle.sweep_rules.proofs.OverLemmas.{sum-but_one}
 use Rattle.sweep_labels.specs.declared.label.Label.{Label as CodeLabel}
 use Rattle.sweep_labels.specs.declared.ready_times.ReadyTimes.{ReadyTimes}
+use Rattle.sweep_labels.specs.Ships.{is_in, IsWith}
 use Rattle.sweep_labels.specs.Labels.{label_of, times_at}
 use Rattle.sweep_labels.specs.Arcs.{IsGainBehind, gains_with}
 use Rattle.sweep_labels.proofs.ArcLemmas.{own-gain, other-gain}
 use Rattle.sweep_labels.specs.declared.step.Arc.{Arc}
 use Rattle.sweep_arcs.specs.declared.asked.ArcsAsked.{ArcsAsked}
 use Rattle.sweep_arcs.specs.declared.lane.Lane.{Lane}
-use Rattle.sweep_arcs.specs.Lanes.{ask_of, IsSameLane, HasGain, HasArcs}
+use Rattle.sweep_arcs.specs.Lanes.{ask_of, IsLane, IsSameLane, HasGain, HasArcs}
 use Rattle.sweep.specs.declared.sweep_case.SweepCase.{SweepCase}
 use Rattle.sweep.specs.declared.origin.Origin.{Origin}
-use Rattle.sweep.specs.Bounds.{cuts_of, AreLanes, IsLaneOf, AreArcsAsked, gain_in, AreGainsTo, IsRoom}
+use Rattle.sweep.specs.Bounds.{cuts_of, AreLanesFrom, AreLanesOf, AreSameLanes, AreArcsAsked, gain_in, AreGainsTo, IsRoom}
 
 zero-plus : (n : ℕ) → 0 + n ≡ n
 zero-plus n = omega arith
@@ -58,6 +60,23 @@ module _ (f : ℕ → ℕ) (p : ℕ → Bool) (n : ℕ) where
     where
       none : sum_by f [] ≡ 0
       none = refl
+
+-- all ships but the late ones, and one ship more, late or not
+module _ (late old n : ℕ) (before : (s : ℕ) → s < n → is_in old s ≡ not (is_in late s)) (past : (s : ℕ) → n ≤ s → is_in old s ≡ false) where
+  pub but_in : (new : ℕ) → is_in late n ≡ false → IsWith old n new → (s : ℕ) → s < n + 1 → is_in new s ≡ not (is_in late s)
+  but_in new out more s less = elim (eqb_tells s n) [
+    | inl y ↦ subst (λ s. is_in new s ≡ not (is_in late s)) (sym y.1) (more.own ∙ ap not (sym out))
+    | inr m ↦ more.others s m.1 ∙ before s (omega (arith, less, m.1))
+  ]
+
+  pub but_out : is_in late n ≡ true → (s : ℕ) → s < n + 1 → is_in old s ≡ not (is_in late s)
+  but_out is s less = elim (eqb_tells s n) [
+    | inl y ↦ subst (λ s. is_in old s ≡ not (is_in late s)) (sym y.1) (past n (omega arith) ∙ ap not (sym is))
+    | inr m ↦ before s (omega (arith, less, m.1))
+  ]
+
+  pub past_in : (new : ℕ) → IsWith old n new → (s : ℕ) → n + 1 ≤ s → is_in new s ≡ false
+  past_in new more s above = more.others s (λ same. absurd (omega (arith, above, same))) ∙ past s (omega (arith, above))
 
 -- a ship of the instance is missing where it isn't served, and no other number is
 module _ (I : Instance) (served : ℕ → Bool) (s : ℕ) where
@@ -91,32 +110,53 @@ gains_more case label n gains gain within here all = record {
     before : (c : ℕ) → c ≢ n → c < n + 1 → c < n
     before c other less = omega arith
 
--- a lane was asked: it is the same, and what it says is of its chamber
-pub lanes_set : (case : SweepCase) (lanes : List Lane) (c : ℕ) (old new : Lane) → AreLanes case lanes → c < length case.instance.now.chambers
-    → ((d : Lane) → slice_index_or lanes c d ≡ old) → IsSameLane old new → AreLanes case (slice_set lanes c new)
-lanes_set case lanes c old new are known here same = record {
-  count = length-set lanes c new ∙ are.count;
-  each = λ k d less. elim (eqb_tells k c) [
+-- a lane was asked: all are the same, and what it says is of its chamber
+pub lanes_set : (lanes : List Lane) (c : ℕ) (old new : Lane) → c < length lanes → ((d : Lane) → slice_index_or lanes c d ≡ old) → IsSameLane old new → AreSameLanes lanes (slice_set lanes c new)
+lanes_set lanes c old new within here same = record {
+  count = length-set lanes c new;
+  each = λ k d less is. elim (eqb_tells k c) [
     | inl y ↦
-        subst (λ k. IsLaneOf case.instance.now (cuts_of case) case.prices.now k (slice_index_or (slice_set lanes c new) k d)) (sym y.1)
-        (subst (IsLaneOf case.instance.now (cuts_of case) case.prices.now c) (sym (get_or-set_same lanes c new d (omega (arith, known, are.count))))
-        (record { is = same.is; ask = same.same ∙ ap ask_of (sym (here d)) ∙ (are.each c d known).ask }))
+        subst (λ k. IsSameLane (slice_index_or lanes k d) (slice_index_or (slice_set lanes c new) k d)) (sym y.1)
+        (subst (IsSameLane (slice_index_or lanes c d)) (sym (get_or-set_same lanes c new d within))
+        (subst (λ l. IsSameLane l new) (sym (here d)) same))
     | inr m ↦
-        subst (IsLaneOf case.instance.now (cuts_of case) case.prices.now k) (sym (get_or-set_other lanes c k new d m.1)) (are.each k d less)
+        subst (IsSameLane (slice_index_or lanes k d)) (sym (get_or-set_other lanes c k new d m.1)) (record { is = is; same = refl })
   ];
 }
 
-pub lane_gain : (case : SweepCase) (lanes : List Lane) (c : ℕ) (old : Lane) (times : ReadyTimes) (gain : ℕ) → AreLanes case lanes → c < length case.instance.now.chambers
-    → ((d : Lane) → slice_index_or lanes c d ≡ old) → HasGain (ask_of old) times gain → IsGainBehind case.instance.now (cuts_of case) case.prices.now c times gain
-lane_gain case lanes c old times gain are known here has =
-    let own : ask_of old ≡ line_ask case.instance.now c (cuts_of case) 0 case.prices.now [] = ap ask_of (sym (here old)) ∙ (are.each c old known).ask in
-    (subst (λ (ask : LineAsk). HasGain ask times gain) own has).is
+pub same_none : (lanes : List Lane) → AreSameLanes lanes lanes
+same_none lanes = record { count = refl; each = λ k d less is. record { is = is; same = refl } }
 
-pub lane_arcs : (case : SweepCase) (lanes : List Lane) (c : ℕ) (old : Lane) (asked : ArcsAsked) (arcs : List Arc) → AreLanes case lanes → c < length case.instance.now.chambers
-    → ((d : Lane) → slice_index_or lanes c d ≡ old) → HasArcs (ask_of old) asked arcs → AreArcsAsked case c asked arcs
-lane_arcs case lanes c old asked arcs are known here has =
-    let own : ask_of old ≡ line_ask case.instance.now c (cuts_of case) 0 case.prices.now [] = ap ask_of (sym (here old)) ∙ (are.each c old known).ask in
-    (subst (λ (ask : LineAsk). HasArcs ask asked arcs) own has).are
+pub same_more : (a b c : List Lane) → AreSameLanes a b → AreSameLanes b c → AreSameLanes a c
+same_more a b c first second = record {
+  count = second.count ∙ first.count;
+  each = λ k d less is.
+      let one = first.each k d less is in
+      let two = second.each k d (omega (arith, less, first.count)) one.is in
+      record { is = two.is; same = two.same ∙ one.same };
+}
+
+pub lanes_on : (I : Instance) (cuts : List PlainCut) (prices : PriceList) (first n : ℕ) (old new : List Lane) → AreLanesFrom I cuts prices first n old → AreSameLanes old new → AreLanesFrom I cuts prices first n new
+lanes_on I cuts prices first n old new are same = record {
+  within = omega (arith, are.within, same.count);
+  each = λ c d less.
+      let was = are.each c d less in
+      let one = same.each (first + c) d (omega (arith, less, are.within)) was.is in
+      record { is = one.is; ask = one.same ∙ was.ask };
+}
+
+module _ (case : SweepCase) (lanes : List Lane) (first c : ℕ) (old : Lane) (are : AreLanesOf case first lanes) (known : c < length case.instance.now.chambers) (here : (d : Lane) → slice_index_or lanes (first + c) d ≡ old) where
+  own-ask : ask_of old ≡ line_ask case.instance.now c (cuts_of case) 0 case.prices.now []
+  own-ask = ap ask_of (sym (here old)) ∙ (are.each c old known).ask
+
+  pub lane_is : IsLane old
+  lane_is = subst IsLane (here old) (are.each c old known).is
+
+  pub lane_gain : (times : ReadyTimes) (gain : ℕ) → HasGain (ask_of old) times gain → IsGainBehind case.instance.now (cuts_of case) case.prices.now c times gain
+  lane_gain times gain has = (subst (λ (ask : LineAsk). HasGain ask times gain) own-ask has).is
+
+  pub lane_arcs : (asked : ArcsAsked) (arcs : List Arc) → HasArcs (ask_of old) asked arcs → AreArcsAsked case c asked arcs
+  lane_arcs asked arcs has = (subst (λ (ask : LineAsk). HasArcs ask asked arcs) own-ask has).are
 
 -- the room that the goal leaves
 pub room_wide : (case : SweepCase) (from : Origin) (c goal sum beside low high : ℕ) (room : ℤ) → c < length case.instance.now.chambers

@@ -1,17 +1,18 @@
 -- A label goes on: each group by which it may leads to a label that is met.
-use Rattle.std.proofs.Common.{◌≡◌, ℕ, ℤ, pos, ◌+ℤ◌, ◌≤ℤ◌, ◌+◌, ◌*◌, ◌<◌, false, inl, inr, None, List, length, sum_by, refl, sym, ap, ◌∙◌, subst, arith, slice_index_or}
+use Rattle.std.proofs.Common.{◌≡◌, ℕ, ℤ, pos, ◌+ℤ◌, ◌≤ℤ◌, ◌+◌, ◌*◌, ◌<◌, true, false, inl, inr, None, List, length, sum_by, refl, sym, ap, ◌∙◌, subst, arith, slice_index_or}
 use Rattle.std.proofs.lemmas.List.{get_or_append_left}
 use Rattle.lock_model.specs.declared.group.Group.{Group}
 use Rattle.lock_model.specs.declared.way.Way.{Way}
 use Rattle.lock_rules.specs.Arrival.{numbers_from}
 use Rattle.sweep_rules.specs.Uncut.{IsSwept}
-use Rattle.sweep_rules.specs.Label.{Label, CanGoOn, IsGoneOn, gone_on}
+use Rattle.sweep_rules.specs.Label.{Label, IsFirstLabel, CanGoOn, IsGoneOn, gone_on}
 use Rattle.sweep_rules.specs.Completion.{EndsBelow}
 use Rattle.sweep_rules.specs.Gain.{IsGain, prices_missing, triples_missing}
 use Rattle.sweep_rules.specs.Treated.{IsTreated, label_at}
 use Rattle.sweep_rules.proofs.GainLemmas.{above-none, missing-paid}
 use Rattle.sweep_rules.proofs.GoingLemmas.{gone_on-is}
-use Rattle.sweep_rules.proofs.TreatedLemmas.{met-dropped, treated-dropped, treated-gone}
+use Rattle.sweep_rules.proofs.TreatedLemmas.{met-dropped, treated-dropped, treated-gone, treated-swept}
+use Rattle.sweep_split.proofs.LateLemmas.{treated-none}
 use Rattle.sweep_labels.specs.declared.label.Label.{Label as CodeLabel}
 use Rattle.sweep_labels.specs.declared.label.KeptLabel.{KeptLabel}
 use Rattle.sweep_labels.specs.declared.made.Made.{Made}
@@ -23,13 +24,13 @@ use Rattle.sweep_labels.specs.Steps.{IsStepBy}
 use Rattle.sweep_labels.specs.Sweeping.{labels_of}
 use Rattle.sweep_labels.specs.Arcs.{IsArcBy, AreArcs, IsBeyond, IsLowWorth, gains_with}
 use Rattle.sweep_labels.proofs.ArcLemmas.{own-gain, other-gain, arc-beyond}
-use Rattle.sweep_labels.proofs.SweepingLemmas.{label-at, closed-swept}
+use Rattle.sweep_labels.proofs.SweepingLemmas.{label-at, labels-length}
 use Rattle.sweep.specs.declared.sweep_case.SweepCase.{SweepCase}
 use Rattle.sweep.specs.declared.origin.Missing.{Missing}
 use Rattle.sweep.specs.declared.origin.Origin.{Origin}
 use Rattle.sweep.specs.declared.sweeper.Sweeper.{Sweeper}
 use Rattle.sweep.specs.Bounds.{cuts_of, gain_in, AreGains, IsBoundAbove, IsMissing, IsOrigin, IsRoom}
-use Rattle.sweep.specs.Going.{IsGrown, IsFurther, IsMetBy, IsBegun, IsLedOn, IsArcOn, IsArcLed, AreArcsLed, IsWayLed, AreLed}
+use Rattle.sweep.specs.Going.{IsGrown, IsFurther, IsMetBy, IsDone, IsLedOn, IsArcOn, IsArcLed, AreArcsLed, IsWayLed, AreLed}
 use Rattle.sweep.proofs.GrownLemmas.{met_on, led_on}
 
 module _ (case : SweepCase) where
@@ -146,8 +147,23 @@ module _ (case : SweepCase) where
       (subst (λ l. (c : ℕ) (g : Group) → CanGoOn case.instance.now (cuts_of case) l c g → (next : Label) × IsGoneOn case.instance.now (cuts_of case) l c g next × IsMetBy case made next) (sym at)
       (λ c g can. let one = led.each c can.chamber g can in (one.next, one.gone, one.met)))
 
-  -- WHERE NO LABEL IS OPEN the goal of the end is swept.
-  pub end_swept : (s t : Sweeper) → IsBegun case s.made → IsFurther case s t → ((k : ℕ) → open_at t.made.labels.are_open.items k ≡ false) → IsSwept case.instance.now (cuts_of case) t.made.goal
-  end_swept s t begun further closed =
-      closed-swept case.instance.now (cuts_of case) t.made.goal t.made.labels.items.items t.made.labels.are_open.items further.sound.treated closed begun.first begun.is
-      (met_on case s.made t.made begun.first further.grown begun.met)
+  -- WHERE NO LABEL IS OPEN all are treated,
+  pub end_done : (s t : Sweeper) (label : Label) → IsMetBy case s.made label → IsFurther case s t → ((k : ℕ) → open_at t.made.labels.are_open.items k ≡ false) → IsDone case t.made label
+  end_done s t label met further closed = record {
+    treated = λ k within. elim (further.sound.treated.each k (omega (arith, within, labels-length t.made.labels.items.items))) [
+      | inl was ↦ absurd (apart (sym was ∙ closed k))
+      | inr treated ↦ treated
+    ];
+    met = met_on case s.made t.made label further.grown met;
+  }
+    where
+      apart : true ≡ false → ⊥
+      apart e = cc
+
+  -- so nothing behind the label costs less than the goal,
+  pub done_none : (made : Made) (label : Label) → IsDone case made label → EndsBelow case.instance.now (cuts_of case) made.goal label → ⊥
+  done_none made label done ends = treated-none case.instance.now (cuts_of case) made.goal (labels_of made.labels.items.items) done.treated label done.met ends
+
+  -- which is swept where it was a first label.
+  pub done_swept : (made : Made) (first : Label) → IsFirstLabel case.instance.now (cuts_of case) first → IsDone case made first → IsSwept case.instance.now (cuts_of case) made.goal
+  done_swept made first is done = treated-swept case.instance.now (cuts_of case) made.goal (labels_of made.labels.items.items) done.treated first is done.met

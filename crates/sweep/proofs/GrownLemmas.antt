@@ -1,5 +1,5 @@
 -- What was met stays so as a sweep goes on.
-use Rattle.std.proofs.Common.{◌≡◌, ◌≢◌, ℕ, ◌+◌, ◌<◌, false, inl, inr, List, [], ◌++◌, length, refl, sym, ap, ◌∙◌, subst, arith, slice_set, append-nil, append_assoc}
+use Rattle.std.proofs.Common.{◌≡◌, ◌≢◌, ℕ, ◌+◌, ◌<◌, false, inl, inr, List, [], ◌++◌, length, slice_index_or, refl, sym, ap, ◌∙◌, subst, arith, slice_set, append-nil, append_assoc}
 use Rattle.std.proofs.lemmas.List.{length-set}
 use Rattle.std.proofs.lemmas.Bool.Decides.{eqb_tells}
 use Rattle.lock_model.specs.declared.group.Group.{Group}
@@ -19,7 +19,11 @@ use Rattle.sweep_labels.proofs.MadeLemmas.{met_grown}
 use Rattle.sweep_labels.proofs.SweepingLemmas.{closed-treated}
 use Rattle.sweep.specs.declared.sweep_case.SweepCase.{SweepCase}
 use Rattle.sweep.specs.declared.sweeper.Sweeper.{Sweeper}
-use Rattle.sweep.specs.Bounds.{cuts_of, AreLanes}
+use Rattle.sweep.specs.Bounds.{cuts_of, AreSameLanes}
+use Rattle.sweep.specs.Late.{IsGuided}
+use Rattle.sweep.specs.declared.late_bound.LateCosts.{LateCosts}
+use Rattle.sweep.proofs.BoundLemmas.{lanes_on}
+use Rattle.sweep_arcs.specs.declared.lane.Lane.{Lane}
 use Rattle.sweep.specs.Going.{IsSound, IsGrown, IsFurther, IsMetBy, IsLedOn, IsArcLed, AreArcsLed, IsWayLed, AreLed}
 
 pub grown_none : (items : List KeptLabel) (goal : ℕ) → HasGrown items goal items goal
@@ -33,24 +37,39 @@ grown_more a b c f g h first second = record {
 }
 
 module _ (case : SweepCase) where
+  -- lanes that were asked are as right as before
+  pub guided_on : (old new : List Lane) (known : LateCosts) → IsGuided case old known → AreSameLanes old new → IsGuided case new known
+  guided_on old new known guided same = record {
+    lanes = record {
+      own = lanes_on case.instance.now (cuts_of case) case.prices.now 0 (length case.instance.now.chambers) old new guided.lanes.own same;
+      rows = λ k d less.
+          let late = slice_index_or known.late.now k d in
+          lanes_on case.instance.now (cuts_of case) late.prices late.first (length case.instance.now.chambers) old new (guided.lanes.rows k d less) same;
+    };
+    first = guided.first;
+    costs = guided.costs;
+  }
+
   -- the sweep with other things changed than its lanes and labels is as sound, and as far on
-  pub sound_same : (s t : Sweeper) → IsSound case s → AreLanes case t.lanes.now → t.made ≡ s.made → IsSound case t
-  sound_same s t sound lanes made = record {
+  pub sound_same : (s t : Sweeper) → IsSound case s → IsGuided case t.lanes.now t.known → t.made ≡ s.made → IsSound case t
+  sound_same s t sound guided made = record {
     arrive = sound.arrive;
-    lanes = lanes;
+    guided = guided;
     level = subst (λ (made : Made). length made.labels.are_open.items ≡ length made.labels.items.items) (sym made) sound.level;
     treated = subst (λ (made : Made). AreTreated case.instance.now (cuts_of case) made.goal made.labels.items.items made.labels.are_open.items) (sym made) sound.treated;
   }
 
-  pub further_same : (s t : Sweeper) → IsSound case s → AreLanes case t.lanes.now → t.made ≡ s.made → IsFurther case s t
-  further_same s t sound lanes made = record {
-    sound = sound_same s t sound lanes made;
+  pub further_same : (s t : Sweeper) → IsSound case s → IsGuided case t.lanes.now t.known → t.made ≡ s.made → t.known ≡ s.known → IsFurther case s t
+  further_same s t sound guided made known = record {
+    sound = sound_same s t sound guided made;
+    known = known;
     grown = subst (IsGrown s.made) (sym made) (grown_none s.made.labels.items.items s.made.goal);
   }
 
   pub further_more : (s t u : Sweeper) → IsFurther case s t → IsFurther case t u → IsFurther case s u
   further_more s t u first second = record {
     sound = second.sound;
+    known = second.known ∙ first.known;
     grown = grown_more s.made.labels.items.items t.made.labels.items.items u.made.labels.items.items s.made.goal t.made.goal u.made.goal first.grown second.grown;
   }
 
@@ -98,26 +117,27 @@ module _ (case : SweepCase) where
   }
 
   -- a label is kept
-  pub kept_further : (s t : Sweeper) (l : KeptLabel) → IsSound case s → AreLanes case t.lanes.now
+  pub kept_further : (s t : Sweeper) (l : KeptLabel) → IsSound case s → IsGuided case t.lanes.now t.known → t.known ≡ s.known
       → IsKept l s.made.labels.items.items s.made.labels.are_open.items s.made.goal t.made.labels.items.items t.made.labels.are_open.items t.made.goal → IsFurther case s t
-  kept_further s t l sound lanes kept = record {
+  kept_further s t l sound guided known kept = record {
     sound = record {
       arrive = sound.arrive;
-      lanes = lanes;
+      guided = guided;
       level = kept.level;
       treated = kept.treated case.instance.now (cuts_of case) sound.treated;
     };
+    known = known;
     grown = kept.grown;
   }
 
   -- a treated label is closed
-  pub closed_further : (s t : Sweeper) (n : ℕ) → IsSound case s → AreLanes case t.lanes.now → t.made.goal ≡ s.made.goal → t.made.labels.items.items ≡ s.made.labels.items.items
+  pub closed_further : (s t : Sweeper) (n : ℕ) → IsSound case s → IsGuided case t.lanes.now t.known → t.known ≡ s.known → t.made.goal ≡ s.made.goal → t.made.labels.items.items ≡ s.made.labels.items.items
       → t.made.labels.are_open.items ≡ slice_set s.made.labels.are_open.items n false
       → IsTreated case.instance.now (cuts_of case) s.made.goal (labels_of s.made.labels.items.items) n → IsFurther case s t
-  closed_further s t n sound lanes goal items flags treated = record {
+  closed_further s t n sound guided known goal items flags treated = record {
     sound = record {
       arrive = sound.arrive;
-      lanes = lanes;
+      guided = guided;
       level = ap length flags ∙ length-set s.made.labels.are_open.items n false ∙ sound.level ∙ ap length (sym items);
       treated =
           subst (λ goal. AreTreated case.instance.now (cuts_of case) goal t.made.labels.items.items t.made.labels.are_open.items) (sym goal)
@@ -125,5 +145,6 @@ module _ (case : SweepCase) where
           (subst (AreTreated case.instance.now (cuts_of case) s.made.goal s.made.labels.items.items) (sym flags)
           (closed-treated case.instance.now (cuts_of case) s.made.goal s.made.labels.items.items s.made.labels.are_open.items n treated sound.treated)));
     };
+    known = known;
     grown = record { more = []; appended = items ∙ sym (append-nil s.made.labels.items.items); low = omega (arith, goal) };
   }

@@ -4,3 +4,4 @@ pub mod GoingLemmas
 pub mod EndLemmas
 pub mod JudgeLemmas
 pub mod SoonestLemmas
+pub mod LateLemmas

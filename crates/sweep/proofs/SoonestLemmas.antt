@@ -47,18 +47,18 @@ pub soon_none : (case : SweepCase) (label : CodeLabel) (soonest : List ℕ) → 
 soon_none case label soonest = record { each = λ c d none. absurd (omega (arith, none)) }
 
 pub soon_more : (case : SweepCase) (label : CodeLabel) (n : ℕ) (arrivals : Arrivals) (times : ReadyTimes) (pass : ℕ) (old new : List ℕ) → AreSoonBefore case label n old
-    → ((d : Arrivals) → slice_index_or case.arrivals.items n d ≡ arrivals) → times_at label.ready n ≡ times → (chamber_at case.instance.now n).pass ≡ pass
+    → ((d : Arrivals) → slice_index_or case.arrivals.now n d ≡ arrivals) → times_at label.ready n ≡ times → (chamber_at case.instance.now n).pass ≡ pass
     → AreSoonIn arrivals times pass new → AreLower old new → AreSoonBefore case label (n + 1) new
 soon_more case label n arrivals times pass old new before list ready long own lower = record {
   each = λ c d less. elim (eqb_tells c n) [
     | inl y ↦
-        subst (λ c. AreSoonIn (slice_index_or case.arrivals.items c d) (times_at label.ready c) (chamber_at case.instance.now c).pass new) (sym y.1)
+        subst (λ c. AreSoonIn (slice_index_or case.arrivals.now c d) (times_at label.ready c) (chamber_at case.instance.now c).pass new) (sym y.1)
         (subst (λ a. AreSoonIn a (times_at label.ready n) (chamber_at case.instance.now n).pass new) (sym (list d))
         (subst (λ t. AreSoonIn arrivals t (chamber_at case.instance.now n).pass new) (sym ready)
         (subst (λ p. AreSoonIn arrivals times p new) (sym long) own)))
     | inr m ↦
         let was = before.each c d (omega (arith, less, m.1)) in
-        let a = slice_index_or case.arrivals.items c d in
+        let a = slice_index_or case.arrivals.now c d in
         record {
           up = lower-soon a.up.items.items (times_at label.ready c).up (chamber_at case.instance.now c).pass (length a.up.items.items) old new lower was.up;
           down = lower-soon a.down.items.items (times_at label.ready c).down (chamber_at case.instance.now c).pass (length a.down.items.items) old new lower was.down;
@@ -84,12 +84,12 @@ pub steady_none : (case : SweepCase) (label : CodeLabel) → AreSteadyBefore cas
 steady_none case label = record { each = λ c d none. absurd (omega (arith, none)) }
 
 pub steady_more : (case : SweepCase) (label : CodeLabel) (n : ℕ) (arrivals : Arrivals) (times : ReadyTimes) (pass : ℕ) → AreSteadyBefore case label n
-    → ((d : Arrivals) → slice_index_or case.arrivals.items n d ≡ arrivals) → times_at label.ready n ≡ times → (chamber_at case.instance.now n).pass ≡ pass
+    → ((d : Arrivals) → slice_index_or case.arrivals.now n d ≡ arrivals) → times_at label.ready n ≡ times → (chamber_at case.instance.now n).pass ≡ pass
     → IsSteadyIn arrivals label.served.bits times pass → AreSteadyBefore case label (n + 1)
 steady_more case label n arrivals times pass before list ready long own = record {
   each = λ c d less. elim (eqb_tells c n) [
     | inl y ↦
-        subst (λ c. IsSteadyIn (slice_index_or case.arrivals.items c d) label.served.bits (times_at label.ready c) (chamber_at case.instance.now c).pass) (sym y.1)
+        subst (λ c. IsSteadyIn (slice_index_or case.arrivals.now c d) label.served.bits (times_at label.ready c) (chamber_at case.instance.now c).pass) (sym y.1)
         (subst (λ a. IsSteadyIn a label.served.bits (times_at label.ready n) (chamber_at case.instance.now n).pass) (sym (list d))
         (subst (λ t. IsSteadyIn arrivals label.served.bits t (chamber_at case.instance.now n).pass) (sym ready)
         (subst (λ p. IsSteadyIn arrivals label.served.bits times p) (sym long) own)))
@@ -112,19 +112,19 @@ soon_in I cuts served c arrivals times pass soonest few arrive are Down s wanted
     soon_listed I arrivals.down.items.items times.down pass soonest s (omega (arith, wanted.known, few)) (arrive.down.whole served s wanted) are.down
 
 -- a list with a place has an element
-some : (items : List Arrivals) (c : ℕ) → c < length items → Arrivals
+pub some : (items : List Arrivals) (c : ℕ) → c < length items → Arrivals
 some [] c none = absurd (omega (arith, none))
 some (a ∷ more) c within = a
 
-module _ (case : SweepCase) (label : CodeLabel) (arrive : AllArrive case.instance.now (cuts_of case) case.arrivals.items) where
+module _ (case : SweepCase) (label : CodeLabel) (arrive : AllArrive case.instance.now (cuts_of case) case.arrivals.now) where
   few : length case.instance.now.ships ≤ SHIPS
   few = case.instance.now.limits.ship_count.1
 
   -- a label is steady where its chambers are
-  steady : AreSteadyBefore case label (length case.instance.now.chambers) → IsSteady case.instance.now (cuts_of case) (label_of label)
+  pub steady : AreSteadyBefore case label (length case.instance.now.chambers) → IsSteady case.instance.now (cuts_of case) (label_of label)
   steady are = record {
     soon = λ c known way s wanted.
-        let d = some case.arrivals.items c (omega (arith, known, case.level)) in
+        let d = some case.arrivals.now c (omega (arith, known, case.level)) in
         (are.each c d known).soon case.instance.now (cuts_of case) c few (arrive.each c d known) way (other_way way) s wanted;
   }
 
@@ -133,10 +133,10 @@ module _ (case : SweepCase) (label : CodeLabel) (arrive : AllArrive case.instanc
       → IsSoonest case.instance.now (cuts_of case) (label_of label) (λ s. soon_at soonest s + (ship_at case.instance.now s).handling)
   soonest-is soonest are = record {
     least = λ c known way s wanted.
-        let d = some case.arrivals.items c (omega (arith, known, case.level)) in
+        let d = some case.arrivals.now c (omega (arith, known, case.level)) in
         omega (
           arith,
-          soon_in case.instance.now (cuts_of case) (is_in label.served.bits) c (slice_index_or case.arrivals.items c d) (times_at label.ready c)
+          soon_in case.instance.now (cuts_of case) (is_in label.served.bits) c (slice_index_or case.arrivals.now c d) (times_at label.ready c)
               (chamber_at case.instance.now c).pass soonest few (arrive.each c d known) (are.each c d known) way s wanted,
         );
   }

@@ -1,5 +1,5 @@
 -- What prices bound behind the labels of a sweep.
-use Rattle.std.specs.Prelude.{ℕ, ℤ, pos, ◌+ℤ◌, ◌≤ℤ◌, Bool, ◌≡◌, ◌+◌, ◌*◌, ◌<◌, List, [], length, sum_by, slice_index_or}
+use Rattle.std.specs.Prelude.{ℕ, ℤ, pos, ◌+ℤ◌, ◌≤ℤ◌, Bool, ◌≡◌, ◌+◌, ◌*◌, ◌<◌, ◌≤◌, List, [], length, sum_by, slice_index_or}
 use Rattle.lock_model.specs.declared.instance.Instance.{Instance}
 use Rattle.lock_rules.specs.Arrival.{numbers_from}
 use Rattle.price_rules.specs.Prices.{PriceList, PlainCut}
@@ -13,7 +13,7 @@ use Rattle.sweep_labels.specs.declared.step.Arc.{Arc}
 use Rattle.sweep_labels.specs.Arcs.{AreArcs, gains_with}
 use Rattle.sweep_arcs.specs.declared.asked.ArcsAsked.{ArcsAsked}
 use Rattle.sweep_arcs.specs.declared.lane.Lane.{Lane}
-use Rattle.sweep_arcs.specs.Lanes.{ask_of, IsLane}
+use Rattle.sweep_arcs.specs.Lanes.{ask_of, IsLane, IsSameLane}
 use Rattle.sweep.specs.declared.sweep_case.SweepCase.{SweepCase}
 use Rattle.sweep.specs.declared.origin.Origin.{Origin}
 use Rattle.sweep.specs.declared.origin.Missing.{Missing}
@@ -27,14 +27,19 @@ pub record IsLaneOf (I : Instance) (cuts : List PlainCut) (prices : PriceList) (
   pub is : IsLane lane
   pub ask : ask_of lane ≡ line_ask I c cuts 0 prices []
 
--- these are the first n chambers
-pub record AreLanesOf (I : Instance) (cuts : List PlainCut) (prices : PriceList) (n : ℕ) (lanes : List Lane) : Type 0 where
-  pub count : length lanes ≡ n
-  pub each : (c : ℕ) (d : Lane) → c < n → IsLaneOf I cuts prices c (slice_index_or lanes c d)
+-- these are n chambers from a place on
+pub record AreLanesFrom (I : Instance) (cuts : List PlainCut) (prices : PriceList) (first n : ℕ) (lanes : List Lane) : Type 0 where
+  pub within : first + n ≤ length lanes
+  pub each : (c : ℕ) (d : Lane) → c < n → IsLaneOf I cuts prices c (slice_index_or lanes (first + c) d)
 
--- all chambers of the case
-abbrev pub AreLanes : SweepCase → List Lane → Type 0
-AreLanes case lanes = AreLanesOf case.instance.now (cuts_of case) case.prices.now (length case.instance.now.chambers) lanes
+-- all chambers of the case are, from a place on
+abbrev pub AreLanesOf : SweepCase → ℕ → List Lane → Type 0
+AreLanesOf case first lanes = AreLanesFrom case.instance.now (cuts_of case) case.prices.now first (length case.instance.now.chambers) lanes
+
+-- each lane is asked the same as before, and what it keeps is right if it was
+pub record AreSameLanes (old new : List Lane) : Type 0 where
+  pub count : length new ≡ length old
+  pub each : (k : ℕ) (d : Lane) → k < length old → IsLane (slice_index_or old k d) → IsSameLane (slice_index_or old k d) (slice_index_or new k d)
 
 -- the gain of chamber c
 abbrev pub gain_in : List ℕ → ℕ → ℕ

@@ -2,8 +2,8 @@
 use Rattle.std.specs.Prelude.{ℕ, ◌≡◌, ◌<◌, List, length}
 use Rattle.lock_model.specs.declared.group.Group.{Group}
 use Rattle.lock_model.specs.declared.way.Way.{Way}
-use Rattle.sweep_rules.specs.Label.{Label, IsFirstLabel, CanGoOn, IsGoneOn}
-use Rattle.sweep_rules.specs.Treated.{IsMet}
+use Rattle.sweep_rules.specs.Label.{Label, CanGoOn, IsGoneOn}
+use Rattle.sweep_rules.specs.Treated.{IsMet, IsTreated}
 use Rattle.sweep_labels.specs.declared.label.Label.{Label as CodeLabel}
 use Rattle.sweep_labels.specs.declared.made.Made.{Made}
 use Rattle.sweep_labels.specs.declared.step.Arc.{Arc}
@@ -14,12 +14,13 @@ use Rattle.sweep_labels.specs.Coming.{AllArrive}
 use Rattle.sweep_labels.specs.Arcs.{IsArcBy, arc_at}
 use Rattle.sweep.specs.declared.sweep_case.SweepCase.{SweepCase}
 use Rattle.sweep.specs.declared.sweeper.Sweeper.{Sweeper}
-use Rattle.sweep.specs.Bounds.{cuts_of, AreLanes}
+use Rattle.sweep.specs.Bounds.{cuts_of}
+use Rattle.sweep.specs.Late.{IsGuided}
 
--- The lanes are the chambers of the case, the ships that these wait for are listed, and each label is open or treated.
+-- The lanes are right and so are late costs, the ships that the chambers wait for are listed, and each label is open or treated.
 pub record IsSound (case : SweepCase) (s : Sweeper) : Type 0 where
-  pub arrive : AllArrive case.instance.now (cuts_of case) case.arrivals.items
-  pub lanes : AreLanes case s.lanes.now
+  pub arrive : AllArrive case.instance.now (cuts_of case) case.arrivals.now
+  pub guided : IsGuided case s.lanes.now s.known
   pub level : length s.made.labels.are_open.items ≡ length s.made.labels.items.items
   pub treated : AreTreated case.instance.now (cuts_of case) s.made.goal s.made.labels.items.items s.made.labels.are_open.items
 
@@ -27,20 +28,20 @@ pub record IsSound (case : SweepCase) (s : Sweeper) : Type 0 where
 abbrev pub IsGrown : Made → Made → Type 0
 IsGrown old new = HasGrown old.labels.items.items old.goal new.labels.items.items new.goal
 
--- the sweep is further on, and as sound
+-- the sweep is further on, and as sound, with the same late costs
 pub record IsFurther (case : SweepCase) (old new : Sweeper) : Type 0 where
   pub sound : IsSound case new
+  pub known : new.known ≡ old.known
   pub grown : IsGrown old.made new.made
 
 -- the label is met by those that were made
 abbrev pub IsMetBy : SweepCase → Made → Label → Type 0
 IsMetBy case made label = IsMet case.instance.now (cuts_of case) made.goal (labels_of made.labels.items.items) label
 
--- a first label is met
-pub record IsBegun (case : SweepCase) (made : Made) : Type 0 where
-  pub first : Label
-  pub is : IsFirstLabel case.instance.now (cuts_of case) first
-  pub met : IsMetBy case made first
+-- all labels are treated, and they meet this one
+pub record IsDone (case : SweepCase) (made : Made) (label : Label) : Type 0 where
+  pub treated : (k : ℕ) → k < length (labels_of made.labels.items.items) → IsTreated case.instance.now (cuts_of case) made.goal (labels_of made.labels.items.items) k
+  pub met : IsMetBy case made label
 
 -- a label to which the label goes on by the group is met
 pub record IsLedOn (case : SweepCase) (made : Made) (from : Label) (c : ℕ) (g : Group) : Type 0 where

@@ -3,3 +3,4 @@ pub mod Going
 pub mod Judging
 pub mod Ends
 pub mod Soonest
+pub mod Late

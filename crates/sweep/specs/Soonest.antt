@@ -35,7 +35,7 @@ pub record AreSoonIn (arrivals : Arrivals) (times : ReadyTimes) (pass : ℕ) (so
 
 -- and of the first n chambers behind a label
 pub record AreSoonBefore (case : SweepCase) (label : CodeLabel) (n : ℕ) (soonest : List ℕ) : Type 0 where
-  pub each : (c : ℕ) (d : Arrivals) → c < n → AreSoonIn (slice_index_or case.arrivals.items c d) (times_at label.ready c) (chamber_at case.instance.now c).pass soonest
+  pub each : (c : ℕ) (d : Arrivals) → c < n → AreSoonIn (slice_index_or case.arrivals.now c d) (times_at label.ready c) (chamber_at case.instance.now c).pass soonest
 
 -- what ship s costs at the least, in hundredths of a minute: its price, or its soonest flow time where that is more
 abbrev pub cost_from : SweepCase → List ℕ → ℕ → ℕ
@@ -48,4 +48,4 @@ pub record IsSteadyIn (arrivals : Arrivals) (bits : ℕ) (times : ReadyTimes) (p
 
 -- So are the first n chambers behind a label.
 pub record AreSteadyBefore (case : SweepCase) (label : CodeLabel) (n : ℕ) : Type 0 where
-  pub each : (c : ℕ) (d : Arrivals) → c < n → IsSteadyIn (slice_index_or case.arrivals.items c d) label.served.bits (times_at label.ready c) (chamber_at case.instance.now c).pass
+  pub each : (c : ℕ) (d : Arrivals) → c < n → IsSteadyIn (slice_index_or case.arrivals.now c d) label.served.bits (times_at label.ready c) (chamber_at case.instance.now c).pass

@@ -1,31 +1,31 @@
 //! Costs that are swept one after the other.
 ghost use Rattle.std.specs.Prelude.{◌≡◌, ◌≤◌};
 
-use crate::asked::SweepAsked;
-
 // A cost for which fewer labels were made took next to nothing.
 const FEW_LABELS: u64 = 4_000;
 // After one for which more were made, a cost that is farther by an eighth may take more than there may be.
 const MANY_LABELS: u64 = 100_000;
 
 /// Costs, in minutes, up to a last one. What a sweep takes hangs on how far its cost is above what prices
-/// reach, so costs rise from there.
+/// bound, so it is that distance that rises.
 #[derive(Clone, Copy)]
 pub(crate) struct Goals {
-    reached: u64,
+    low: u64,
     distance: u64,
     last: u64,
 }
 
 impl Goals {
-    /// The costs that are asked for.
-    pub(crate) fn new(asked: &SweepAsked) -> Goals
-        ensures { result.last ≡ asked.now.goal }
+    /// The costs behind one that is reached, up to a last one; what prices bound.
+    pub(crate) fn new(low: u64, reached: u64, last: u64) -> Goals
+        ensures { result.last ≡ last }
     {
+        let low = low.min(reached);
+        let distance = reached.saturating_sub(low).saturating_add(1);
         Goals {
-            reached: asked.first,
-            distance: 1,
-            last: asked.goal,
+            low,
+            distance,
+            last,
         }
     }
 
@@ -33,7 +33,7 @@ impl Goals {
     pub(crate) fn next(&self) -> u64
         ensures { result ≤ self.now.last }
     {
-        self.reached.saturating_add(self.distance).min(self.last)
+        self.low.saturating_add(self.distance).min(self.last)
     }
 
     /// After a cost for which so many labels were made, the next one is half as far again, or an eighth where

@@ -7,7 +7,7 @@ ghost use Rattle.sweep_rules.specs.Gain.{ships_missing, prices_missing, triples_
 ghost use Rattle.sweep_labels.specs.Ships.{is_in};
 ghost use Rattle.sweep_labels.specs.Labels.{label_of};
 ghost use Rattle.sweep_labels.specs.Arcs.{IsGainBehind};
-ghost use Rattle.sweep.specs.Bounds.{cuts_of, gain_in, AreLanes, AreGains, IsBoundAbove, IsMissing, IsRoom};
+ghost use Rattle.sweep.specs.Bounds.{cuts_of, gain_in, AreLanesOf, AreSameLanes, AreGains, IsBoundAbove, IsMissing, IsRoom};
 
 use crate::sums::{added, difference, hundredths};
 use crate::sweep_case::SweepCase;
@@ -40,32 +40,34 @@ pub(crate) struct Origin {
 fn gain_by(
     case: &SweepCase,
     lanes: &mut [Lane],
+    first: usize,
     chamber: usize,
     times: &ReadyTimes,
 ) -> Result<u64, PriceError>
-    requires lanes { AreLanes case.now lanes.old }
+    requires lanes { AreLanesOf case.now first lanes.old }
     requires chamber { chamber < length case.now.instance.now.chambers }
-    ensures lanes { OnOk result (AreLanes case.now lanes.new) }
+    ensures same { OnOk result (AreSameLanes lanes.old lanes.new) }
     ensures gain { IfOk result (IsGainBehind case.now.instance.now (cuts_of case.now) case.now.prices.now chamber times.now) }
 {
-    let lane = &mut lanes[chamber];
+    let lane = &mut lanes[first + chamber];
     lane.gain(times)
 }
 
-/// The gains of all chambers behind a label.
-#[tactic(auto, using(crate::proofs::BoundLemmas::gains_none, crate::proofs::BoundLemmas::gains_more))]
+/// The gains of all chambers behind a label, from the place of the first one on.
+#[tactic(auto, using(crate::proofs::BoundLemmas::gains_none, crate::proofs::BoundLemmas::gains_more, crate::proofs::BoundLemmas::same_none))]
 pub(crate) fn gains_of(
     case: &SweepCase,
     lanes: &mut [Lane],
+    first: usize,
     label: &Label,
 ) -> Result<[u64; CHAMBERS], PriceError>
-    requires { AreLanes case.now lanes.old }
-    ensures lanes { OnOk result (AreLanes case.now lanes.new) }
+    requires { AreLanesOf case.now first lanes.old }
+    ensures same { OnOk result (AreSameLanes lanes.old lanes.new) }
     ensures gains { IfOk result (AreGains case.now (label_of label.now)) }
 {
     let mut gains = [0; CHAMBERS];
     for chamber in 0..case.instance.chambers.as_slice().len() {
-        gains[chamber] = gain_by(case, lanes, chamber, &label.ready[chamber])?;
+        gains[chamber] = gain_by(case, lanes, first, chamber, &label.ready[chamber])?;
     }
     Ok(gains)
 }

@@ -64,8 +64,8 @@ fn put_first(lines: &mut Vec<Vec<Group>>, chamber: usize, group: Group) -> Resul
     }
 }
 
-// The group by which a label went on.
-fn group_of(instance: &Instance, kept: &KeptLabel, before: &KeptLabel) -> Group {
+/// The ships that a label serves and the one before it doesn't, and their way: the group by which it went on.
+pub fn group_of(instance: &Instance, kept: &KeptLabel, before: &KeptLabel) -> Group {
     let ships = ships_of(instance, &kept.label.served, &before.label.served);
     let way = way_of(instance, &ships);
     Group { way, ships }

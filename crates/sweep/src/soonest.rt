@@ -108,7 +108,7 @@ fn is_steady_in(arrivals: &Arrivals, served: &ShipSet, times: &ReadyTimes, pass:
 
 // Whether all chambers are so behind a label.
 #[tactic(auto, using(crate::proofs::SoonestLemmas::steady_none, crate::proofs::SoonestLemmas::steady_more))]
-fn is_steady(case: &SweepCase, label: &Label) -> bool
+pub(crate) fn is_steady(case: &SweepCase, label: &Label) -> bool
     ensures { IsTrue result → AreSteadyBefore case.now label.now (length case.now.instance.now.chambers) }
 {
     for chamber in 0..case.instance.chambers.as_slice().len() {
@@ -135,7 +135,7 @@ pub(crate) fn is_late_above(
     gains: &[u64; CHAMBERS],
     goal: u64,
 ) -> Result<bool, PriceError>
-    requires arrive { AllArrive case.now.instance.now (cuts_of case.now) case.now.arrivals.items }
+    requires arrive { AllArrive case.now.instance.now (cuts_of case.now) case.now.arrivals.now }
     requires triples { triples ≡ triples_missing case.now.instance.now case.now.prices.now (label_of label.now).served }
     requires gains { AreGains case.now (label_of label.now) gains.now }
     ensures { IfOk result (λ above. IsTrue above → EndsBelow case.now.instance.now (cuts_of case.now) goal (label_of label.now) → ⊥) }

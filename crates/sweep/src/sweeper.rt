@@ -1,32 +1,35 @@
 //! A sweep in work.
-ghost use Rattle.std.specs.Prelude.{ℕ, ◌≡◌, ◌<◌, false, length, slice_index_or, IfOk, OnOk};
+ghost use Rattle.std.specs.Prelude.{ℕ, ◌≡◌, ◌<◌, false, length, slice_index_or, IsTrue, IfOk, OnOk};
 ghost use Rattle.sweep_rules.specs.Treated.{IsTreated};
 ghost use Rattle.sweep_rules.specs.Uncut.{IsSwept};
+ghost use Rattle.sweep_rules.specs.Completion.{EndsBelow};
 ghost use Rattle.sweep_labels.specs.Ships.{is_in};
 ghost use Rattle.sweep_labels.specs.Putting.{open_at};
 ghost use Rattle.sweep_labels.specs.Sweeping.{labels_of};
 ghost use Rattle.sweep_labels.specs.Labels.{label_of};
 ghost use Rattle.sweep_labels.specs.declared.label.KeptLabel.{KeptLabel as AnyLabel};
-ghost use Rattle.sweep.specs.Bounds.{cuts_of, AreLanes, AreArcsAsked, IsOrigin};
-ghost use Rattle.sweep.specs.Going.{IsSound, IsFurther, IsMetBy, IsBegun, IsArcLed, AreArcsLed, IsWayLed, AreLed};
+ghost use Rattle.sweep.specs.Bounds.{cuts_of, AreLanesOf, AreSameLanes, AreArcsAsked, IsOrigin};
+ghost use Rattle.sweep.specs.Going.{IsSound, IsFurther, IsMetBy, IsDone, IsArcLed, AreArcsLed, IsWayLed, AreLed};
 
+use crate::late_bound::{LateCosts, is_early_above};
 use crate::origin::{
     Missing, Origin, gains_of, is_above, missing_of, missing_triples, room_of, spread_of,
 };
-use crate::soonest::is_late_above;
+use crate::soonest::{is_late_above, is_steady};
 use crate::sums::less;
 use crate::sweep_case::SweepCase;
 use lock_model::Way;
 use price_terms::PriceError;
 use std::alloc::Global;
 use sweep_arcs::{ArcsAsked, Lane};
-use sweep_labels::{Arc, KeptLabel, Label, Made, Queue, Step, are_closed, first_label, gone_on};
+use sweep_labels::{Arc, KeptLabel, Label, Made, Queue, Step, are_closed, gone_on};
 
-/// The chambers, the labels that were made and what is to be swept, those that are open, how far arcs are
-/// listed, and the greatest number of labels.
+/// The chambers, the late costs that are known, the labels that were made and what is to be swept, those that
+/// are open, how far arcs are listed, and the number of labels after which the sweep stops.
 #[derive(Drop)]
-pub(crate) struct Sweeper<'s, 'a> {
+pub(crate) struct Sweeper<'s, 'k, 'a> {
     pub(crate) lanes: &'s mut [Lane<'a>],
+    pub(crate) known: LateCosts<'k>,
     pub(crate) made: Made,
     pub(crate) queue: Queue,
     pub(crate) spread: i64,
@@ -41,9 +44,9 @@ fn arcs_of(
     chamber: usize,
     asked: &ArcsAsked,
 ) -> Result<Vec<Arc>, PriceError>
-    requires lanes { AreLanes case.now lanes.old }
+    requires lanes { AreLanesOf case.now 0 lanes.old }
     requires chamber { chamber < length case.now.instance.now.chambers }
-    ensures lanes { OnOk result (AreLanes case.now lanes.new) }
+    ensures same { OnOk result (AreSameLanes lanes.old lanes.new) }
     ensures arcs { IfOk result (λ arcs. AreArcsAsked case.now chamber asked.now arcs.items) }
 {
     let lane = &mut lanes[chamber];
@@ -58,7 +61,7 @@ fn put_to(queue: &mut Queue, number: Option<u32>, kept: &KeptLabel) -> Result<()
     }
 }
 
-impl Sweeper<'_, '_> {
+impl Sweeper<'_, '_, '_> {
     // Keeps a label.
     #[tactic(auto, using(crate::proofs::GrownLemmas::kept_further))]
     fn keep(&mut self, case: &SweepCase, kept: KeptLabel) -> Result<(), PriceError>
@@ -66,17 +69,37 @@ impl Sweeper<'_, '_> {
         ensures further { OnOk result (IsFurther case.now self.old self.new) }
         ensures met { OnOk result (IsMetBy case.now self.new.made (label_of kept.label)) }
     {
-        if self.made.labels.items.len() >= self.most {
-            return Err(PriceError::TooMany);
-        }
         let whole = case.first_missing(&kept.label.served).is_none();
         let number = self.made.keep(kept, whole)?;
         put_to(&mut self.queue, number, &kept)?;
         Ok(())
     }
 
+    // Whether any late cost says that no completion of a label costs less than the goal: only of labels whose
+    // chambers are steady, and ready no sooner than those of a first label.
+    #[tactic(auto, using(crate::proofs::GrownLemmas::guided_on, crate::proofs::GrownLemmas::further_same, crate::proofs::GrownLemmas::further_more, crate::proofs::LateLemmas::split_none))]
+    fn is_split_above(&mut self, case: &SweepCase, label: &Label) -> Result<bool, PriceError>
+        requires { IsSound case.now self.old }
+        ensures further { OnOk result (IsFurther case.now self.old self.new) }
+        ensures none { IfOk result (λ above. IsTrue above → EndsBelow case.now.instance.now (cuts_of case.now) self.new.made.goal (label_of label.now) → ⊥) }
+    {
+        let late = self.known.late;
+        let goal = self.made.goal;
+        let count = self.known.costs.len();
+        if count == 0 || !self.known.first.is_no_worse(label) || !is_steady(case, label) {
+            return Ok(false);
+        }
+        for place in 0..count {
+            let left = goal.saturating_sub(self.known.costs[place]);
+            if is_early_above(case, self.lanes, &late[place], label, left)? {
+                return Ok(true);
+            }
+        }
+        Ok(false)
+    }
+
     // Goes on by a step.
-    #[tactic(auto, using(crate::proofs::GrownLemmas::sound_same, crate::proofs::GrownLemmas::further_same, crate::proofs::GrownLemmas::further_more, crate::proofs::GoingLemmas::arc_dropped, crate::proofs::GoingLemmas::arc_late, crate::proofs::GoingLemmas::arc_kept))]
+    #[tactic(auto, using(crate::proofs::GrownLemmas::guided_on, crate::proofs::GrownLemmas::sound_same, crate::proofs::GrownLemmas::further_same, crate::proofs::GrownLemmas::further_more, crate::proofs::GoingLemmas::arc_dropped, crate::proofs::GoingLemmas::arc_late, crate::proofs::GoingLemmas::arc_kept))]
     fn go_on(&mut self, case: &SweepCase, from: &Origin, step: &Step) -> Result<(), PriceError>
         requires sound { IsSound case.now self.old }
         requires origin { IsOrigin case.now from.now }
@@ -84,8 +107,8 @@ impl Sweeper<'_, '_> {
         ensures further { OnOk result (IsFurther case.now self.old self.new) }
         ensures led { OnOk result (IsArcLed case.now self.new.made from.now.label step.now.chamber step.now.way step.now.arc) }
     {
-        let label = gone_on(case.instance, &case.arrivals, &from.label, step)?;
-        let gains = gains_of(case, self.lanes, &label)?;
+        let label = gone_on(case.instance, case.arrivals, &from.label, step)?;
+        let gains = gains_of(case, self.lanes, 0, &label)?;
         let missing = Missing {
             ships: less(from.missing.ships, step.arc.prices)?,
             triples: missing_triples(case, &label.served),
@@ -96,6 +119,10 @@ impl Sweeper<'_, '_> {
         }
         let late = is_late_above(case, &label, missing.triples, &gains, self.made.goal)?;
         if late {
+            return Ok(());
+        }
+        let split = self.is_split_above(case, &label)?;
+        if split {
             return Ok(());
         }
         let kept = KeptLabel {
@@ -132,7 +159,7 @@ impl Sweeper<'_, '_> {
     }
 
     // Goes on by a chamber and a way.
-    #[tactic(auto, using(crate::proofs::GrownLemmas::sound_same, crate::proofs::GrownLemmas::further_same, crate::proofs::GrownLemmas::further_more, crate::proofs::GoingLemmas::way_led))]
+    #[tactic(auto, using(crate::proofs::GrownLemmas::guided_on, crate::proofs::GrownLemmas::sound_same, crate::proofs::GrownLemmas::further_same, crate::proofs::GrownLemmas::further_more, crate::proofs::GoingLemmas::way_led))]
     fn go_by(
         &mut self,
         case: &SweepCase,
@@ -234,7 +261,7 @@ impl Sweeper<'_, '_> {
     }
 
     // Goes on from the label of a number, and closes it.
-    #[tactic(auto, using(crate::proofs::GrownLemmas::sound_same, crate::proofs::GrownLemmas::further_same, crate::proofs::GrownLemmas::further_more))]
+    #[tactic(auto, using(crate::proofs::GrownLemmas::guided_on, crate::proofs::GrownLemmas::sound_same, crate::proofs::GrownLemmas::further_same, crate::proofs::GrownLemmas::further_more))]
     fn expand(&mut self, case: &SweepCase, number: u32, label: Label) -> Result<(), PriceError>
         requires sound { IsSound case.now self.old }
         requires within { number < length self.old.made.labels.items.items }
@@ -245,7 +272,7 @@ impl Sweeper<'_, '_> {
             return Err(PriceError::TooMany);
         };
         let missing = missing_of(case, &label.served)?;
-        let gains = gains_of(case, self.lanes, &label)?;
+        let gains = gains_of(case, self.lanes, 0, &label)?;
         let from = Origin {
             number,
             label,
@@ -268,13 +295,16 @@ impl Sweeper<'_, '_> {
         }
     }
 
-    // Goes on from labels until the queue has none.
-    #[tactic(auto, using(crate::proofs::GrownLemmas::sound_same, crate::proofs::GrownLemmas::further_same, crate::proofs::GrownLemmas::further_more))]
+    // Goes on from labels until the queue has none, or there are more than may be.
+    #[tactic(auto, using(crate::proofs::GrownLemmas::guided_on, crate::proofs::GrownLemmas::sound_same, crate::proofs::GrownLemmas::further_same, crate::proofs::GrownLemmas::further_more))]
     fn settle_all(&mut self, case: &SweepCase) -> Result<(), PriceError>
         requires { IsSound case.now self.old }
         ensures { OnOk result (IsFurther case.now self.old self.new) }
     {
         for _ in 0..u64::MAX {
+            if self.made.labels.items.len() >= self.most {
+                return Ok(());
+            }
             match self.queue.take()? {
                 None => return Ok(()),
                 Some(number) => self.settle(case, number)?,
@@ -283,30 +313,25 @@ impl Sweeper<'_, '_> {
         Ok(())
     }
 
-    // Goes on from all labels. In the end none is open: else the sweep isn't done.
-    fn run(&mut self, case: &SweepCase) -> Result<(), PriceError>
+    // Goes on from all labels; whether none is open in the end.
+    fn run(&mut self, case: &SweepCase) -> Result<bool, PriceError>
         requires { IsSound case.now self.old }
         ensures further { OnOk result (IsFurther case.now self.old self.new) }
-        ensures closed { OnOk result ((k : ℕ) → open_at self.new.made.labels.are_open.items k ≡ false) }
+        ensures closed { IfOk result (λ done. IsTrue done → (k : ℕ) → open_at self.new.made.labels.are_open.items k ≡ false) }
     {
         self.settle_all(case)?;
-        if are_closed(&self.made.labels.are_open) {
-            Ok(())
-        } else {
-            Err(PriceError::TooMany)
-        }
+        Ok(are_closed(&self.made.labels.are_open))
     }
 
-    // Begins with the label that serves nobody.
-    #[tactic(auto, using(crate::proofs::GrownLemmas::sound_same, crate::proofs::GrownLemmas::further_same, crate::proofs::GrownLemmas::further_more))]
-    fn begin(&mut self, case: &SweepCase) -> Result<(), PriceError>
+    // Begins with a label.
+    #[tactic(auto, using(crate::proofs::GrownLemmas::guided_on, crate::proofs::GrownLemmas::sound_same, crate::proofs::GrownLemmas::further_same, crate::proofs::GrownLemmas::further_more))]
+    fn begin(&mut self, case: &SweepCase, label: Label) -> Result<(), PriceError>
         requires { IsSound case.now self.old }
         ensures further { OnOk result (IsFurther case.now self.old self.new) }
-        ensures begun { OnOk result (IsBegun case.now self.new.made) }
+        ensures met { OnOk result (IsMetBy case.now self.new.made (label_of label)) }
     {
-        let label = first_label(case.instance, &case.arrivals)?;
         let missing = missing_of(case, &label.served)?;
-        let gains = gains_of(case, self.lanes, &label)?;
+        let gains = gains_of(case, self.lanes, 0, &label)?;
         self.spread = spread_of(case, &label, missing, &gains, self.made.goal)?;
         let kept = KeptLabel {
             label,
@@ -321,27 +346,47 @@ impl Sweeper<'_, '_> {
     // Forgets all labels, and takes a cost that is to be swept. What is kept of the chambers stays.
     fn restart(&mut self, alloc: Global, case: &SweepCase, goal: u64) -> Result<(), PriceError>
         requires { IsSound case.now self.old }
-        ensures { OnOk result (IsSound case.now self.new) }
+        ensures sound { OnOk result (IsSound case.now self.new) }
+        ensures known { OnOk result (self.new.known ≡ self.old.known) }
     {
         self.made = Made::new(alloc, goal)?;
         self.queue = Queue::new(alloc);
         Ok(())
     }
 
-    /// Sweeps a cost: in the end the goal is swept, which is the cost, or that of a plan that was found.
+    /// Sweeps a cost behind a label; whether no label is open in the end.
+    pub(crate) fn sweep_behind(
+        &mut self,
+        alloc: Global,
+        case: &SweepCase,
+        label: Label,
+        goal: u64,
+    ) -> Result<bool, PriceError>
+        requires { IsSound case.now self.old }
+        ensures sound { OnOk result (IsSound case.now self.new) }
+        ensures known { OnOk result (self.new.known ≡ self.old.known) }
+        ensures done { IfOk result (λ done. IsTrue done → IsDone case.now self.new.made (label_of label)) }
+    {
+        self.restart(alloc, case, goal)?;
+        self.begin(case, label)?;
+        let done = self.run(case)?;
+        Ok(done)
+    }
+
+    /// Sweeps a cost. Where it is done the goal is swept in the end, which is the cost, or that of a plan that
+    /// was found.
     pub(crate) fn sweep(
         &mut self,
         alloc: Global,
         case: &SweepCase,
         goal: u64,
-    ) -> Result<(), PriceError>
+    ) -> Result<bool, PriceError>
         requires { IsSound case.now self.old }
         ensures sound { OnOk result (IsSound case.now self.new) }
-        ensures swept { OnOk result (IsSwept case.now.instance.now (cuts_of case.now) self.new.made.goal) }
+        ensures swept { IfOk result (λ done. IsTrue done → IsSwept case.now.instance.now (cuts_of case.now) self.new.made.goal) }
     {
-        self.restart(alloc, case, goal)?;
-        self.begin(case)?;
-        self.run(case)?;
-        Ok(())
+        let first = self.known.first;
+        let done = self.sweep_behind(alloc, case, first, goal)?;
+        Ok(done)
     }
 }

@@ -17,10 +17,11 @@ const ENOUGH: SweepLimits = SweepLimits {
 };
 
 // The cost of an uncut plan that a sweep has found, which is swept; None where the goal is swept.
-fn cost_of(outcome: &SweepOutcome) -> Option<u64> {
+fn cost_of(outcome: &SweepOutcome) -> Result<Option<u64>, Fail> {
     match &outcome.end {
-        SweepEnd::Swept(_) => None,
-        SweepEnd::Cheaper { plan, swept } => Some(plan.cost.max(swept.cost())),
+        None => Err("too many labels".into()),
+        Some(SweepEnd::Swept(_)) => Ok(None),
+        Some(SweepEnd::Cheaper { plan, swept }) => Ok(Some(plan.cost.max(swept.cost()))),
     }
 }
 
@@ -38,11 +39,12 @@ fn cheaper(
         instance,
         cuts,
         prices: &prices,
+        low: first,
         first,
         goal,
     };
     let outcome = sweep(alloc, &asked, ENOUGH).map_err(|_| "refused")?;
-    Ok(cost_of(&outcome))
+    cost_of(&outcome)
 }
 
 // Holds the least cost of uncut plans against sweeps.
@@ -200,11 +202,12 @@ fn by_prices(
         instance: &instance,
         cuts: &[],
         prices: &prices,
+        low: goal,
         first: goal,
         goal,
     };
     let outcome = sweep(alloc, &asked, ENOUGH).map_err(|_| "refused")?;
-    Ok((cost_of(&outcome), outcome.labels))
+    Ok((cost_of(&outcome)?, outcome.labels))
 }
 
 #[test]

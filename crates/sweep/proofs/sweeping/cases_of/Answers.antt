@@ -1,19 +1,21 @@
-use Rattle.std.proofs.Common.{◌≡◌, ◌+◌, length, sym, ap, subst, arith}
-use Rattle.sweep.specs.Ends.{IsCase, AreCases}
-use Rattle.sweep.proofs.EndLemmas.{items_more, count_more}
+use Rattle.std.proofs.Common.{◌≡◌, length, rules, sym, ◌∙◌, subst, arith}
+use Rattle.std.proofs.lemmas.List.{get_or_default}
+use Rattle.sweep.specs.Ends.{AreAllCases}
+use Rattle.sweep.proofs.EndLemmas.{rows_none, rows_more}
 use Rattle.sweep.proofs.sweeping.cases_of.Goals as goal
 
-pub loop-index-preserved : goal.loop-index-preserved
-loop-index-preserved c =
-    let own = c.case_of.result in
-    let n = c.loop-index.index in
-    let cases = c.loop-index.cases.items in
-    subst (AreCases c.args.asked.now (n + 1)) (sym c.in_ok-append.ensures) (record {
-      count = count_more cases n own c.loop-index.invariant.count;
-      each = items_more (IsCase c.args.asked.now) cases n own c.loop-index.invariant.count c.loop-index.invariant.each c.case_of.ensures;
-    })
+pub loop-place-init : goal.loop-place-init
+loop-place-init c = rows_none c.args.asked.now c.args.late.now _ _ (search rules) c.in_ok-append_cases.ensures
+
+pub loop-place-preserved : goal.loop-place-preserved
+loop-place-preserved c =
+    let late = c.args.late.now in
+    let n = c.loop-place.place in
+    let ships = c.index-late-place.result in
+    rows_more c.args.asked.now late n ships _ _ (λ d. get_or_default late n d ships c.loop-place-test.true ∙ sym c.index-late-place.is) c.in_ok-append_early.ensures.first c.in_ok-append_early.ensures.row c.loop-place.invariant
 
 pub returns : goal.returns
 returns c =
-    let all : c.loop-index.index ≡ length c.args.asked.now.instance.now.chambers = omega (arith, c.loop-index-test.false, c.loop-index.auto.index-end, ap length c.as_slice.ensures.value) in
-    subst (λ n. AreCases c.args.asked.now n c.loop-index.cases.items) all c.loop-index.invariant
+    let late = c.args.late.now in
+    let all : c.loop-place.place ≡ length late = omega (arith, c.loop-place-test.false, c.loop-place.auto.place-end) in
+    subst (λ n. AreAllCases c.args.asked.now late n c.loop-place.cases.items) all c.loop-place.invariant

@@ -1,5 +1,5 @@
-use Rattle.sweep.specs.Ends.{AreCases}
+use Rattle.sweep.specs.Ends.{AreAllCases}
 use Rattle.sweep.proofs.sweeping.cases_of.Given as goal
 
-abbrev pub invariant-loop-index : goal.invariant-loop-index
-invariant-loop-index l = AreCases l.asked l.index l.cases.items
+abbrev pub invariant-loop-place : goal.invariant-loop-place
+invariant-loop-place l = AreAllCases l.asked l.late l.place l.cases.items

@@ -4,7 +4,7 @@ use Rattle.sweep_labels.specs.Arcs.{AreArcs}
 use Rattle.sweep_labels.specs.Labels.{ready_by, times_at}
 use Rattle.sweep.specs.Bounds.{cuts_of}
 use Rattle.sweep.specs.Going.{AreArcsLed}
-use Rattle.sweep.proofs.GrownLemmas.{further_same, further_more}
+use Rattle.sweep.proofs.GrownLemmas.{guided_on, further_same, further_more}
 use Rattle.sweep.proofs.GoingLemmas.{way_led}
 use Rattle.sweep.proofs.sweeper.Sweeper.go_by.Goals as goal
 
@@ -15,7 +15,7 @@ returns-clause-led c =
     let arcs = c.in_ok-arcs.arcs.items in
     let room = c.in_ok-room.room in
     let fits : SFits w64 room = search rules in
-    let further = further_more case _ _ _ (further_same case _ _ c.requires.sound c.in_ok-arcs.ensures.lanes refl) c.in_ok-go_by_arcs.ensures.further in
+    let further = further_more case _ _ _ (further_same case _ _ c.requires.sound (guided_on case _ _ _ c.requires.sound.guided c.in_ok-arcs.ensures.same) refl refl) c.in_ok-go_by_arcs.ensures.further in
     let minute : c.by-minute.result ≡ ready_by (times_at from.label.ready c.args.chamber) c.args.way = search rules in
     let listed : c.deref.result.now ≡ arcs = search rules in
     way_led case c.args.self.now.made c.go_by_arcs.new.self.made from c.args.chamber c.args.way room arcs further.grown c.requires.origin c.in_ok-room.ensures

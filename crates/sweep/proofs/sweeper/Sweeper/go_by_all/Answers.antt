@@ -6,7 +6,7 @@ use Rattle.sweep.proofs.sweeper.Sweeper.go_by_all.Goals as goal
 
 pub loop-chamber-init : goal.loop-chamber-init
 loop-chamber-init c = record {
-  further = further_same c.args.case.now _ _ c.requires.sound c.requires.sound.lanes refl;
+  further = further_same c.args.case.now _ _ c.requires.sound c.requires.sound.guided refl refl;
   led = led_none c.args.case.now _ (label_of c.args.from.now.label);
 }
 

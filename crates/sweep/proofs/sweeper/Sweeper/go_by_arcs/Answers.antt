@@ -4,7 +4,7 @@ use Rattle.sweep.proofs.sweeper.Sweeper.go_by_arcs.Goals as goal
 
 pub loop-place-init : goal.loop-place-init
 loop-place-init c = record {
-  further = further_same c.args.case.now _ _ c.requires.sound c.requires.sound.lanes refl;
+  further = further_same c.args.case.now _ _ c.requires.sound c.requires.sound.guided refl refl;
   led = arcs_led_none c.args.case.now _ c.args.from.now.label c.args.chamber c.args.way c.args.arcs.now;
 }
 
