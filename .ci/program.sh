@@ -51,12 +51,12 @@ examples_are_solved() {
 # the stack that README names is enough, also for as many ships as there may be and all workers
 stack_is_enough() {
   local program=crates/lock_main/out/lock_main dossier=out/queue-24.dossier lot answer status
-  mkdir -p out && (ulimit -s 320 && "$program" solve --dossier <examples/queue-24.lock >"$dossier") || return 1
-  answer=$(ulimit -s 256 && "$program" check <"$dossier") && rm "$dossier" || return 1
+  mkdir -p out && (ulimit -s 256 && "$program" solve --dossier <examples/queue-24.lock >"$dossier") || return 1
+  answer=$(ulimit -s 80 && "$program" check <"$dossier") && rm "$dossier" || return 1
   [[ $answer = "accepted cost "* ]] || return 1
   lot=$("$program" lot --number 1 --ships 96 --chambers 2) || return 1
-  answer=$(ulimit -s 320 && "$program" solve --nodes 2000 --workers 8 <<<"$lot") && status=0 || status=$?
+  answer=$(ulimit -s 256 && "$program" solve --nodes 2000 --workers 8 <<<"$lot") && status=0 || status=$?
   [ $status = 0 ] && [[ $answer = "optimal cost "* ]] || return 1
-  (ulimit -s 128 && cat examples/evening.lock examples/evening.plan | "$program" judge >/dev/null) &&
-    (ulimit -s 128 && cat examples/evening.lock examples/evening.plan | "$program" play >/dev/null)
+  cat examples/evening.lock examples/evening.plan | (ulimit -s 80 && "$program" judge >/dev/null) &&
+    cat examples/evening.lock examples/evening.plan | (ulimit -s 80 && "$program" play >/dev/null)
 }

@@ -82,8 +82,8 @@ fn read_root<'m>(alloc: Global, claim: &Claim, marks: &'m [Mark]) -> Result<Read
     ensures read { IfOk result (λ reading. IfOk reading (λ read. IsReadLow claim.now root claim.now.cost marks.now read.marks.now read.low)) }
     ensures stuck { IfOk result (λ reading. IfErr reading (λ stuck. IsStuck claim.now root marks.now stuck.marks.now stuck.reason)) }
 {
-    let mut space = Workspace::new(alloc);
-    read_tree(claim, &root(claim.instance), claim.cost, marks, &mut space)
+    let mut space = Workspace::boxed(alloc)?;
+    read_tree(claim, &root(claim.instance), claim.cost, marks, &mut *space)
 }
 
 // The low of marks that are one tree of the root, or their first failure, by the number of the

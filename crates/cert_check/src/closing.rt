@@ -116,7 +116,9 @@ fn is_closed_by(
 }
 
 // Whether a mark ends the node: it closes it, or leaves it open, by prices that are there where it
-// names some. Refuses want of memory alone, and only of a price mark and of one that tells of a sweep.
+// names some. Refuses want of memory alone, and only of a price mark and of one that tells of a sweep. Inlined,
+// what it needs would be on the stack for each node on the way to the deepest leaf.
+#[inline(never)]
 pub(crate) fn ends(
     claim: &Claim,
     node: &Node,

@@ -38,7 +38,9 @@ fn judge_cut(alloc: Global, instance: &Instance, cut: &CertCut) -> Result<Option
     }
 }
 
-// The first cut that isn't proved, by its number, and why. None where all cuts are proved.
+// The first cut that isn't proved, by its number, and why. None where all cuts are proved. Inlined, what it
+// needs would be on the stack while the marks are read.
+#[inline(never)]
 pub(crate) fn first_unproved(
     alloc: Global,
     instance: &Instance,

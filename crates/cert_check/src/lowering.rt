@@ -60,7 +60,9 @@ fn lowered_by_prices(
 }
 
 // The greatest number up to `low` that a mark which ends the node shows. Refuses want of memory alone,
-// and only of an open leaf by prices.
+// and only of an open leaf by prices. Inlined, what it needs would be on the stack for each node on the way to
+// the deepest leaf.
+#[inline(never)]
 pub(crate) fn lowered(
     claim: &Claim,
     node: &Node,

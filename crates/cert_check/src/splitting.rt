@@ -18,7 +18,9 @@ pub(crate) struct SplitNode<'n> {
     reached: Reached,
 }
 
-// A node that is split, ready for its children.
+// A node that is split, ready for its children. Inlined, what it needs would be on the stack for each node on the
+// way to the deepest leaf.
+#[inline(never)]
 pub(crate) fn split<'n>(claim: &Claim, node: &'n Node, walks: &mut NodeWalks) -> SplitNode<'n>
     requires node { IsNodeOf claim.now.instance.now node.now }
     requires lacks { node.now.depth < length claim.now.instance.now.ships }

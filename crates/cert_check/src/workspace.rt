@@ -1,6 +1,7 @@
 //! What one mark leaves to the next.
 
 use flow_bounds::NodeWalks;
+use no_memory::NoMemory;
 use price_bound::KeptLines;
 use std::alloc::Global;
 
@@ -15,11 +16,20 @@ pub(crate) struct Workspace {
 
 impl Workspace {
     // Nothing is kept yet.
-    pub(crate) fn new(alloc: Global) -> Workspace {
+    fn new(alloc: Global) -> Workspace {
         Workspace {
             alloc,
             walks: NodeWalks::new(),
             kept: KeptLines::new(alloc),
+        }
+    }
+
+    // The same in a box: room for walks is large. Inlined, it would be on the stack too.
+    #[inline(never)]
+    pub(crate) fn boxed(alloc: Global) -> Result<Box<Workspace>, NoMemory> {
+        match Box::new(alloc, Workspace::new(alloc)) {
+            Ok(space) => Ok(space),
+            Err(_) => Err(NoMemory),
         }
     }
 }

@@ -57,17 +57,18 @@ dossier_back own I C version heading d text is named same printed back certifica
 -- ---- one meaning, or one first fault
 
 -- a reader that is right where it answers, answers all that is so or wants memory
-pub reads_each : (own : Form) (text : List ℕ) (r : Result (Instance × Certificate) DossierError) → IfOk r (λ p. Reads own text p.0 p.1) → IfErr r (IsFirstFault own text) → (I : Instance) (C : Certificate) → Reads own text I C → IsAnswer (I, C) r
-unfolding Reads DossierFault
-reads_each own text (Ok p) ok err = each_answer (dossier_in own text) (Ok p) ok err
-reads_each own text (Err NoMemory) ok err = each_answer (dossier_in own text) (Err NoMemory) ok err
-reads_each own text (Err (Fault f)) ok err = each_answer (dossier_in own text) (Err (Fault f)) ok err
+module _ {A : Type 0} (held : A → Instance × Certificate) where
+  pub reads_each : (own : Form) (text : List ℕ) (r : Result A DossierError) → IfOk r (λ a. Reads own text (held a).0 (held a).1) → IfErr r (IsFirstFault own text) → (I : Instance) (C : Certificate) → Reads own text I C → IsAnswer held (I, C) r
+  unfolding Reads DossierFault
+  reads_each own text (Ok a) ok err = each_answer held (dossier_in own text) (Ok a) ok err
+  reads_each own text (Err NoMemory) ok err = each_answer held (dossier_in own text) (Err NoMemory) ok err
+  reads_each own text (Err (Fault f)) ok err = each_answer held (dossier_in own text) (Err (Fault f)) ok err
 
-pub faults_each : (own : Form) (text : List ℕ) (r : Result (Instance × Certificate) DossierError) → IfOk r (λ p. Reads own text p.0 p.1) → IfErr r (IsFirstFault own text) → (f : BadDossier) → DossierFault own text f → IsFaultAnswer f r
-unfolding Reads DossierFault
-faults_each own text (Ok p) ok err = each_fault_answer (dossier_in own text) (Ok p) ok err
-faults_each own text (Err NoMemory) ok err = each_fault_answer (dossier_in own text) (Err NoMemory) ok err
-faults_each own text (Err (Fault f)) ok err = each_fault_answer (dossier_in own text) (Err (Fault f)) ok err
+  pub faults_each : (own : Form) (text : List ℕ) (r : Result A DossierError) → IfOk r (λ a. Reads own text (held a).0 (held a).1) → IfErr r (IsFirstFault own text) → (f : BadDossier) → DossierFault own text f → IsFaultAnswer f r
+  unfolding Reads DossierFault
+  faults_each own text (Ok a) ok err = each_fault_answer held (dossier_in own text) (Ok a) ok err
+  faults_each own text (Err NoMemory) ok err = each_fault_answer held (dossier_in own text) (Err NoMemory) ok err
+  faults_each own text (Err (Fault f)) ok err = each_fault_answer held (dossier_in own text) (Err (Fault f)) ok err
 
 -- ---- reading part by part
 

@@ -78,12 +78,13 @@ module _ {C : Type 0} where
   one-fault told f g first second = let same : ◌≡◌ {A = Result (Draft × C) BadDossier} (Err f) (Err g) = sym first ∙ second in cc
 
   -- an answer that is right where it is one is all that is so, or want of memory
-  pub each_answer : (told : Result (Draft × C) BadDossier) (r : Result (Instance × C) DossierError) → IfOk r (λ p. told ≡ Ok (draft_of p.0, p.1)) → IfErr r (IsFault told) → (I : Instance) (c : C) → told ≡ Ok (draft_of I, c) → IsAnswer (I, c) r
-  each_answer told (Ok p) ok err I c is = let same = one-meaning told p.0 I p.1 c ok is in ap₂ (λ J d. (J, d)) same.0 same.1
-  each_answer told (Err NoMemory) ok err I c is = tt
-  each_answer told (Err (Fault f)) ok err I c is = no-fault told I c f is err
+  module _ {A : Type 0} (held : A → Instance × C) where
+    pub each_answer : (told : Result (Draft × C) BadDossier) (r : Result A DossierError) → IfOk r (λ a. told ≡ Ok (draft_of (held a).0, (held a).1)) → IfErr r (IsFault told) → (I : Instance) (c : C) → told ≡ Ok (draft_of I, c) → IsAnswer held (I, c) r
+    each_answer told (Ok a) ok err I c is = let same = one-meaning told (held a).0 I (held a).1 c ok is in ap₂ (λ J d. (J, d)) same.0 same.1
+    each_answer told (Err NoMemory) ok err I c is = tt
+    each_answer told (Err (Fault f)) ok err I c is = no-fault told I c f is err
 
-  pub each_fault_answer : (told : Result (Draft × C) BadDossier) (r : Result (Instance × C) DossierError) → IfOk r (λ p. told ≡ Ok (draft_of p.0, p.1)) → IfErr r (IsFault told) → (f : BadDossier) → told ≡ Err f → IsFaultAnswer f r
-  each_fault_answer told (Ok p) ok err f is = no-fault told p.0 p.1 f ok is
-  each_fault_answer told (Err NoMemory) ok err f is = tt
-  each_fault_answer told (Err (Fault g)) ok err f is = one-fault told g f err is
+    pub each_fault_answer : (told : Result (Draft × C) BadDossier) (r : Result A DossierError) → IfOk r (λ a. told ≡ Ok (draft_of (held a).0, (held a).1)) → IfErr r (IsFault told) → (f : BadDossier) → told ≡ Err f → IsFaultAnswer f r
+    each_fault_answer told (Ok a) ok err f is = no-fault told (held a).0 (held a).1 f ok is
+    each_fault_answer told (Err NoMemory) ok err f is = tt
+    each_fault_answer told (Err (Fault g)) ok err f is = one-fault told g f err is

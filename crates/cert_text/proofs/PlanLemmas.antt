@@ -1,5 +1,5 @@
 -- Plans are read back.
-use Rattle.std.proofs.Common.{◌≡◌, ◌∙◌, ◌<◌, ◌≤◌, ℕ, List, Option, Some, None, refl, sym, ap, length, map, arith, eq-eqb, true, false}
+use Rattle.std.proofs.Common.{◌≡◌, ◌∙◌, ◌<◌, ◌≤◌, ℕ, List, Option, Some, None, IfSome, IfNone, refl, sym, ap, length, map, arith, eq-eqb, true, false}
 use Rattle.std.specs.Prelude.{nat_le}
 use Rattle.std.proofs.lemmas.Bool.Decides.{nat_tests}
 use Rattle.serde_json.proofs.OnLiterals.{serde_json_on_literals}
@@ -45,3 +45,12 @@ too_long most vs many = go (all_in lockage_in (items_view vs)) (all_in-length lo
         let size = count ls refl in
         let test : nat_le (length ls) most ≡ false = grind (arith, nat_tests) in
         rw test refl
+
+-- the same where a reader appends the lockages, or ends at one that is none
+pub items_read : {A : Type 0} (most : ℕ) (vs : List Value) (r : Option A) (ls : List Lockage) → length vs ≤ most → IfSome r (λ _. all_in lockage_in (items_view vs) ≡ Some ls) → IfSome r (λ _. plan_items most (items_view vs) ≡ Some (record { lockages = ls }))
+items_read most vs None ls few is = tt
+items_read most vs (Some u) ls few is = sym (plan_read most vs ls few (sym is))
+
+pub items_none : {A : Type 0} (most : ℕ) (vs : List Value) (r : Option A) → IfNone r (all_in lockage_in (items_view vs) ≡ None) → IfNone r (plan_items most (items_view vs) ≡ None)
+items_none most vs None is = ap (few_of most) is
+items_none most vs (Some u) is = tt

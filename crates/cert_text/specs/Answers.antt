@@ -14,11 +14,11 @@ abbrev pub IsFault : {A : Type 0} → Result A BadDossier → DossierError → T
 IsFault r NoMemory = ⊤
 IsFault r (Fault f) = r ≡ Err f
 
--- the answer is this value, or want of memory
-abbrev pub IsAnswer : {A : Type 0} → A → Result A DossierError → Type 0
-IsAnswer x (Ok y) = y ≡ x
-IsAnswer x (Err NoMemory) = ⊤
-IsAnswer x (Err (Fault f)) = ⊥
+-- the answer holds this value, which is read from it so, or is want of memory
+abbrev pub IsAnswer : {A B : Type 0} → (A → B) → B → Result A DossierError → Type 0
+IsAnswer held x (Ok y) = held y ≡ x
+IsAnswer held x (Err NoMemory) = ⊤
+IsAnswer held x (Err (Fault f)) = ⊥
 
 -- the answer is this fault, or want of memory
 abbrev pub IsFaultAnswer : {A : Type 0} → BadDossier → Result A DossierError → Type 0

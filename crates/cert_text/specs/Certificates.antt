@@ -9,7 +9,6 @@ use Rattle.certificate_rules.specs.Certificates.{Certificate}
 use Rattle.certificate_rules.specs.WellFormed.{numbering_of}
 use Rattle.lock_model.specs.Fleet.{most_lockages}
 use Rattle.line_text.specs.Steps.{◌>>=◌, ◌>>◌}
-use Rattle.cert_text.specs.declared.certificate.Front.{Front}
 use Rattle.cert_text.specs.declared.heading.Form.{Form}
 use Rattle.cert_text.specs.declared.heading.Version.{Version}
 use Rattle.cert_text.specs.Versions.{has_prices, version_of}
@@ -47,6 +46,12 @@ has_keys d = has_key d (codes "cost") && has_key d (codes "cuts") && has_key d (
 abbrev pub is_frame : Version → Data → Bool
 is_frame version d =
     if has_prices version then has_members 5 d && (has_keys d && has_key d (codes "prices")) else has_members 4 d && has_keys d
+
+-- the parts of a certificate that come before its tree
+pub record Front : Type 0 where
+  pub cost : ℕ
+  pub cuts : List CertCut
+  pub plan : Plan
 
 -- The parts before the tree, where the instance has these ships, or the number of the first one at fault: 1 the keys, 2 the cost, 3 the
 -- cuts, 4 the plan.

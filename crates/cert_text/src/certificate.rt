@@ -24,7 +24,7 @@ use crate::prices::prices_at;
 use crate::tree::{put_tree, tree_at};
 use crate::value::has_members;
 use crate::version::{has_outside, has_prices};
-use certificate_parts::{CertCuts, Certificate};
+use certificate_parts::{CertCuts, Certificate, MarkList, PriceLists};
 use lock_model::{Instance, Plan, SHIPS};
 use no_memory::NoMemory;
 use serde_json::Value;
@@ -114,25 +114,25 @@ fn cuts_at(alloc: Global, version: Version, value: &Value) -> Result<CertCuts, D
     }
 }
 
-/// The plan of up to `most` lockages at the key `plan`. Answers `Shape(4)` exactly where there is none.
-/// Takes no memory.
-fn plan_at(most: usize, value: &Value) -> Result<Plan, BadDossier>
+/// The plan of up to `most` lockages at the key `plan`. Answers `Shape(4)` exactly where there is none, or
+/// else want of memory.
+fn plan_at(alloc: Global, most: usize, value: &Value) -> Result<Box<Plan>, DossierError>
     requires { most ≤ SHIPS }
-    ensures read { IfOk result (λ plan. value_at (codes "plan") (plan_in most) (view value.now) ≡ Some plan) }
-    ensures shape { IfErr result (λ f. (f ≡ Shape 4) × (value_at (codes "plan") (plan_in most) (view value.now) ≡ None)) }
+    ensures read { IfOk result (λ plan. value_at (codes "plan") (plan_in most) (view value.now) ≡ Some plan.value) }
+    ensures shape { IfErr result (IsCausedFault (Shape 4) (value_at (codes "plan") (plan_in most) (view value.now) ≡ None)) }
 {
     match value.get("plan") {
-        Some(plan) => plan_of(most, plan),
-        None => Err(BadDossier::Shape(4)),
+        Some(plan) => plan_of(alloc, most, plan),
+        None => Err(DossierError::Fault(BadDossier::Shape(4))),
     }
 }
 
 /// The parts of a certificate that come before its tree.
 #[derive(Drop)]
-pub struct Front {
-    pub cost: u64,
-    pub cuts: CertCuts,
-    pub plan: Plan,
+struct Front {
+    cost: u64,
+    cuts: CertCuts,
+    plan: Box<Plan>,
 }
 
 /// The parts that come before the tree in a value of a version, or the first one at fault.
@@ -143,7 +143,7 @@ fn front_in(
     version: Version,
     value: &Value,
 ) -> Result<Front, DossierError>
-    ensures read { IfOk result (λ f. front_in instance.now.ships version (view value.now) ≡ Ok f) }
+    ensures read { IfOk result (λ f. front_in instance.now.ships version (view value.now) ≡ Ok (record { cost = f.cost; cuts = f.cuts; plan = f.plan.value })) }
     ensures shape { IfErr result (IsFault (fault_under Shape (front_in instance.now.ships version (view value.now)))) }
 {
     if !is_frame(version, value) {
@@ -151,11 +151,36 @@ fn front_in(
     }
     let cost = cost_at(value)?;
     let cuts = cuts_at(alloc, version, value)?;
-    let plan = plan_at(instance.most_lockages(), value)?;
+    let plan = plan_at(alloc, instance.most_lockages(), value)?;
     Ok(Front { cost, cuts, plan })
 }
 
-/// The certificate of this form, of the instance, that a value writes, or the first part at fault.
+/// These parts as a certificate, in a box. On its way there it takes some stack, which is free again then.
+#[inline(never)]
+fn put_together(
+    alloc: Global,
+    front: Front,
+    prices: PriceLists,
+    tree: MarkList,
+) -> Result<Box<Certificate>, NoMemory>
+    ensures { IfOk result (λ c. c.value ≡ record { cost = front.cost; cuts = front.cuts; plan = front.plan.value; prices = prices; tree = tree }) }
+{
+    let Front { cost, cuts, plan } = front;
+    let certificate = Certificate {
+        cost,
+        cuts,
+        plan: Box::into_inner(plan),
+        prices,
+        tree,
+    };
+    match Box::new(alloc, certificate) {
+        Ok(certificate) => Ok(certificate),
+        Err(_) => Err(NoMemory),
+    }
+}
+
+/// The certificate of this form, of the instance, that a value writes, in a box as its plan is; or the first
+/// part at fault.
 #[tactic(auto, unfolding(crate::specs::Certificates::certificate_in), using(crate::proofs::CertificateLemmas::front_fault))]
 pub fn certificate_in(
     alloc: Global,
@@ -163,19 +188,12 @@ pub fn certificate_in(
     instance: &Instance,
     version: Version,
     value: &Value,
-) -> Result<Certificate, DossierError>
-    ensures read { IfOk result (λ c. certificate_in form instance.now.ships version (view value.now) ≡ Ok c) }
+) -> Result<Box<Certificate>, DossierError>
+    ensures read { IfOk result (λ c. certificate_in form instance.now.ships version (view value.now) ≡ Ok c.value) }
     ensures shape { IfErr result (IsFault (fault_under Shape (certificate_in form instance.now.ships version (view value.now)))) }
 {
     let front = front_in(alloc, instance, version, value)?;
     let tree = tree_at(alloc, form, numbering_of(instance), version, value)?;
     let prices = prices_at(alloc, instance.most_lockages(), version, value)?;
-    let Front { cost, cuts, plan } = front;
-    Ok(Certificate {
-        cost,
-        cuts,
-        plan,
-        prices,
-        tree,
-    })
+    Ok(put_together(alloc, front, prices, tree)?)
 }

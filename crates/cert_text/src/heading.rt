@@ -90,7 +90,9 @@ fn heading_of(line: &[u8]) -> Option<Heading>
 }
 
 /// The heading of a text, which is its first line with words, and the bytes after that line. None
-/// exactly where no line has words or the first that has is no heading. Takes no memory.
+/// exactly where no line has words or the first that has is no heading. Takes no memory, and much stack,
+/// which is free again when the text is read.
+#[inline(never)]
 #[tactic(auto, unfolding(crate::specs::Heading::headed))]
 pub fn headed(text: &[u8]) -> Option<(Heading, &[u8])>
     ensures { option_map (λ found. (found.0, found.1.now)) result ≡ headed text.now }

@@ -1,12 +1,13 @@
 //! Plans as JSON values.
-ghost use Rattle.std.specs.Prelude.{◌≡◌, ◌≤◌, All, length, IfOk, IfErr, Some, None, map, codes};
+ghost use Rattle.std.specs.Prelude.{◌≡◌, ◌≤◌, [], All, length, IfOk, IfErr, IfSome, IfNone, Some, None, map, codes};
 ghost use Rattle.certificate_rules.specs.WellFormed.{IsFormedLockage};
 ghost use Rattle.serde_json.specs.View.{view, items_of, items_view};
+ghost use Rattle.cert_text.specs.Answers.{IsCausedFault};
 ghost use Rattle.cert_text.specs.Fields.{word_in, all_in, value_at};
 ghost use Rattle.cert_text.specs.Plans.{way_number, way_of, way_in, spots_in, lockage_data, plan_data, lockage_in, plan_items, plan_in, IsPlanBack};
 ghost use Rattle.cert_text.specs.declared.bad.BadDossier.TheVariants.{Shape};
 
-use crate::bad::BadDossier;
+use crate::bad::{BadDossier, DossierError};
 use crate::group::put_group;
 use crate::ships::ships_at;
 use crate::spots::{put_spots, spots_in};
@@ -133,48 +134,69 @@ fn lockage_in(value: &Value) -> Option<Lockage>
     })
 }
 
-/// The lockages that up to `SHIPS` values write.
-fn all_in(list: &[Value]) -> Option<Lockages>
-    requires { length list.now ≤ SHIPS }
-    ensures { result ≡ all_in lockage_in (items_view list.now) }
+/// Appends the lockages that up to `SHIPS` values write, where there are none yet. None where one writes no lockage.
+fn all_in(list: &[Value], lockages: &mut Lockages) -> Option<()>
+    requires few { length list.now ≤ SHIPS }
+    requires empty { lockages.old ≡ [] }
+    ensures read { IfSome result (λ _. all_in lockage_in (items_view list.now) ≡ Some lockages.new) }
+    ensures fault { IfNone result (all_in lockage_in (items_view list.now) ≡ None) }
 {
-    let mut lockages = Lockages::new();
     for value in list {
         lockages.push(lockage_in(value)?);
     }
-    Some(lockages)
+    Some(())
 }
 
-/// The plan of up to `most` lockages that values write.
-fn plan_items(most: usize, list: &[Value]) -> Option<Plan>
-    requires { most ≤ SHIPS }
-    ensures { result ≡ plan_items most (items_view list.now) }
+/// Reads the plan of up to `most` lockages that values write into an empty one. None where they write none.
+fn plan_items(most: usize, list: &[Value], plan: &mut Plan) -> Option<()>
+    requires most { most ≤ SHIPS }
+    requires empty { plan.old.lockages ≡ [] }
+    ensures read { IfSome result (λ _. plan_items most (items_view list.now) ≡ Some plan.new) }
+    ensures fault { IfNone result (plan_items most (items_view list.now) ≡ None) }
 {
     if list.len() > most {
         return None;
     }
-    let lockages = all_in(list)?;
-    Some(Plan { lockages })
+    all_in(list, &mut plan.lockages)
 }
 
-/// The plan of up to `most` lockages that a value lists.
-fn plan_in(most: usize, value: &Value) -> Option<Plan>
-    requires { most ≤ SHIPS }
-    ensures { result ≡ plan_in most (view value.now) }
+/// Reads the plan of up to `most` lockages that a value lists into an empty one. None where it lists none.
+fn plan_in(most: usize, value: &Value, plan: &mut Plan) -> Option<()>
+    requires most { most ≤ SHIPS }
+    requires empty { plan.old.lockages ≡ [] }
+    ensures read { IfSome result (λ _. plan_in most (view value.now) ≡ Some plan.new) }
+    ensures fault { IfNone result (plan_in most (view value.now) ≡ None) }
 {
     match value.as_array() {
-        Some(list) => plan_items(most, list.as_slice()),
+        Some(list) => plan_items(most, list.as_slice(), plan),
         None => None,
     }
 }
 
-/// The plan of up to `most` lockages that a value lists, each lockage with its chamber, its ships, as
-/// many spots, its start and its way. Answers `Shape(4)` exactly where the value is no such plan. Takes
-/// no memory.
-pub fn plan_of(most: usize, value: &Value) -> Result<Plan, BadDossier>
-    requires { most ≤ SHIPS }
-    ensures read { IfOk result (λ plan. plan_in most (view value.now) ≡ Some plan) }
-    ensures shape { IfErr result (λ f. (f ≡ Shape 4) × (plan_in most (view value.now) ≡ None)) }
+/// A plan without lockages, in a box: it is large, and each place that it is moved to takes as much of the
+/// stack.
+#[inline(never)]
+fn empty_plan(alloc: Global) -> Result<Box<Plan>, NoMemory>
+    ensures { IfOk result (λ plan. plan.value.lockages ≡ []) }
 {
-    plan_in(most, value).ok_or(BadDossier::Shape(4))
+    let lockages = Lockages::new();
+    match Box::new(alloc, Plan { lockages }) {
+        Ok(plan) => Ok(plan),
+        Err(_) => Err(NoMemory),
+    }
+}
+
+/// The plan of up to `most` lockages that a value lists, each lockage with its chamber, its ships, as
+/// many spots, its start and its way. Answers `Shape(4)` exactly where the value is no such plan, or else
+/// want of memory.
+pub fn plan_of(alloc: Global, most: usize, value: &Value) -> Result<Box<Plan>, DossierError>
+    requires { most ≤ SHIPS }
+    ensures read { IfOk result (λ plan. plan_in most (view value.now) ≡ Some plan.value) }
+    ensures shape { IfErr result (IsCausedFault (Shape 4) (plan_in most (view value.now) ≡ None)) }
+{
+    let mut plan = empty_plan(alloc)?;
+    match plan_in(most, value, &mut *plan) {
+        Some(()) => Ok(plan),
+        None => Err(DossierError::Fault(BadDossier::Shape(4))),
+    }
 }

@@ -239,7 +239,9 @@ fn prices_under(
 
 /// The lists of prices at the key `prices`, each of 1 to `most` numbers up to 1,000,000, and in a version
 /// that has them of triples in order besides; none where the version has no prices. Answers `Shape(6)`
-/// exactly where there are no such lists, or else want of memory.
+/// exactly where there are no such lists, or else want of memory. Inlined, what it needs would be on the stack
+/// while the other parts are read.
+#[inline(never)]
 pub fn prices_at(
     alloc: Global,
     most: usize,

@@ -2,6 +2,7 @@
 ghost use Rattle.std.specs.Prelude.{◌≡◌, Some, None, Ok, IfOk, IfErr};
 ghost use Rattle.lock_model.specs.declared.instance.Instance.{Instance as AnyInstance};
 ghost use Rattle.certificate_rules.specs.Certificates.{Certificate as AnyCertificate};
+ghost use Rattle.instance_text.specs.Reading.{Means, instance_part, after_instance};
 ghost use Rattle.serde_json.specs.View.{view};
 ghost use Rattle.cert_text.specs.Answers.{IsCausedFault, IsFault, IsAnswer, IsFaultAnswer};
 ghost use Rattle.cert_text.specs.Dossier.{version_under, json_of, value_in, rest_in, Reads, DossierFault, IsFirstFault};
@@ -64,36 +65,59 @@ fn value_in(alloc: Global, form: Form, bytes: &[u8]) -> Result<(Version, Value),
     Ok((version, value))
 }
 
-/// The certificate of the bytes after the part of an instance.
+/// The certificate of the bytes after the part of an instance, in a box. Inlined, what it needs would be on
+/// the stack while the instance is read, and while the certificate is checked.
+#[inline(never)]
 #[tactic(auto, unfolding(crate::specs::Dossier::rest_in), using(crate::proofs::DossierLemmas::value_fault))]
 fn rest_in(
     alloc: Global,
     form: Form,
     instance: &Instance,
     bytes: &[u8],
-) -> Result<Certificate, DossierError>
-    ensures read { IfOk result (λ c. rest_in form instance.now.ships bytes.now ≡ Ok c) }
+) -> Result<Box<Certificate>, DossierError>
+    ensures read { IfOk result (λ c. rest_in form instance.now.ships bytes.now ≡ Ok c.value) }
     ensures fault { IfErr result (IsFault (rest_in form instance.now.ships bytes.now)) }
 {
     let (version, value) = value_in(alloc, form, bytes)?;
     certificate_in(alloc, form, instance, version, &value)
 }
 
-/// The instance and the certificate of a text.
-#[tactic(auto, using(crate::proofs::DossierLemmas::instance_fault, crate::proofs::DossierLemmas::rest_fault, crate::proofs::DossierLemmas::rest_read))]
-fn read_text(
+/// The instance of the instance part of a text, in a box, and the bytes after that part; or what is wrong with a
+/// dossier of any form.
+#[inline(never)]
+#[tactic(auto, using(crate::proofs::DossierLemmas::instance_fault))]
+fn instance_in(
     alloc: Global,
     form: Form,
     bytes: &[u8],
-) -> Result<(Instance, Certificate), DossierError>
-    ensures read { IfOk result (λ r. Reads form bytes.now r.0 r.1) }
+) -> Result<(Box<Instance>, &[u8]), DossierError>
+    ensures read { IfOk result (λ r. Means (instance_part bytes.now) r.0.value) }
+    ensures rest { IfOk result (λ r. r.1.now ≡ after_instance bytes.now) }
     ensures fault { IfErr result (IsFirstFault form bytes.now) }
 {
+    let _ = form;
     let (instance, rest) = match split_instance(bytes) {
         Ok(parts) => parts,
         Err(bad) => return Err(DossierError::Fault(BadDossier::Instance(bad))),
     };
-    let certificate = rest_in(alloc, form, &instance, rest)?;
+    match Box::new(alloc, instance) {
+        Ok(instance) => Ok((instance, rest)),
+        Err(_) => Err(DossierError::NoMemory),
+    }
+}
+
+/// The instance and the certificate of a text, in boxes.
+#[tactic(auto, using(crate::proofs::DossierLemmas::rest_fault, crate::proofs::DossierLemmas::rest_read))]
+fn read_text(
+    alloc: Global,
+    form: Form,
+    bytes: &[u8],
+) -> Result<(Box<Instance>, Box<Certificate>), DossierError>
+    ensures read { IfOk result (λ r. Reads form bytes.now r.0.value r.1.value) }
+    ensures fault { IfErr result (IsFirstFault form bytes.now) }
+{
+    let (instance, rest) = instance_in(alloc, form, bytes)?;
+    let certificate = rest_in(alloc, form, &*instance, rest)?;
     Ok((instance, certificate))
 }
 
@@ -101,15 +125,16 @@ fn read_text(
 /// `certificate 2`, `certificate 3` or `certificate 4` where it is whole, so that no mark is an open leaf,
 /// and `certificate open`, `certificate open 3` or `certificate open 4` where it may leave nodes open.
 /// `NoMark` comes for the lines of the other form too. Answers the first fault exactly where the bytes are no dossier of the
-/// form, or else want of memory. JSON may nest 127 deep, so no input needs a deeper stack.
+/// form, or else want of memory. JSON may nest 127 deep, so no input needs a deeper stack. Both come in
+/// boxes: they are large, and each place that they are moved to would take as much of the stack.
 pub fn read_dossier(
     alloc: Global,
     form: Form,
     bytes: &[u8],
-) -> Result<(Instance, Certificate), DossierError>
-    ensures read { IfOk result (λ r. Reads form bytes.now r.0 r.1) }
+) -> Result<(Box<Instance>, Box<Certificate>), DossierError>
+    ensures read { IfOk result (λ r. Reads form bytes.now r.0.value r.1.value) }
     ensures fault { IfErr result (IsFirstFault form bytes.now) }
-    ensures each { (i : AnyInstance) (c : AnyCertificate) → Reads form bytes.now i c → IsAnswer (i, c) result }
+    ensures each { (i : AnyInstance) (c : AnyCertificate) → Reads form bytes.now i c → IsAnswer {B = AnyInstance × AnyCertificate} (λ r. (r.0.value, r.1.value)) (i, c) result }
     ensures each_fault { (f : AnyFault) → DossierFault form bytes.now f → IsFaultAnswer f result }
 {
     read_text(alloc, form, bytes)

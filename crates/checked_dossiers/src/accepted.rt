@@ -12,7 +12,7 @@ use std::alloc::Global;
 
 // The dossier of the bytes, where its certificate is accepted.
 fn accepted_of(alloc: Global, bytes: &[u8]) -> Result<CheckedDossier, Answer>
-    ensures accepted { IfOk result (λ d. IsAccepted bytes.now d.instance d.certificate) }
+    ensures accepted { IfOk result (λ d. IsAccepted bytes.now d.instance.value d.certificate.value) }
     ensures refused { IfErr result (λ answer. IsNotAccepted bytes.now answer.status (bytes_in answer.text)) }
 {
     match read_sound(alloc, Form::Whole, bytes) {
@@ -27,7 +27,7 @@ fn accepted_of(alloc: Global, bytes: &[u8]) -> Result<CheckedDossier, Answer>
 /// failure. Want of memory alone refuses a dossier whose certificate is accepted.
 #[tactic(auto, using(crate::proofs::ExactLemmas::accepted_wants))]
 pub fn read_accepted(alloc: Global, bytes: &[u8]) -> Result<CheckedDossier, Answer>
-    ensures accepted { IfOk result (λ d. IsAccepted bytes.now d.instance d.certificate) }
+    ensures accepted { IfOk result (λ d. IsAccepted bytes.now d.instance.value d.certificate.value) }
     ensures refused { IfErr result (λ answer. IsNotAccepted bytes.now answer.status (bytes_in answer.text)) }
     ensures exactly { IfErr result (λ answer. (i : AnyInstance) (c : AnyCertificate) → IsAccepted bytes.now i c → answer.status ≡ Status.NoMemory) }
 {

@@ -17,11 +17,12 @@ use run_answers::{Answer, no_memory};
 use std::alloc::Global;
 
 /// An instance, a certificate of it and its low in minutes; that it stands, and whether it is accepted,
-/// is told by the clauses of who gives them and not by this type.
+/// is told by the clauses of who gives them and not by this type. Both lie in boxes: they are large, and
+/// would be on the stack of all who come after.
 #[derive(Drop)]
 pub struct CheckedDossier {
-    pub instance: Instance,
-    pub certificate: Certificate,
+    pub instance: Box<Instance>,
+    pub certificate: Box<Certificate>,
     pub low: u64,
 }
 
@@ -54,18 +55,18 @@ fn sound_of(
     alloc: Global,
     form: Form,
     bytes: &[u8],
-    instance: Instance,
-    certificate: Certificate,
+    instance: Box<Instance>,
+    certificate: Box<Certificate>,
 ) -> Result<CheckedDossier, Answer>
-    requires { Reads form bytes.now instance certificate }
-    ensures sound { IfOk result (λ d. IsSound form bytes.now d.instance d.certificate) }
-    ensures low { IfOk result (λ d. HasLow d.instance d.certificate d.low) }
+    requires { Reads form bytes.now instance.value certificate.value }
+    ensures sound { IfOk result (λ d. IsSound form bytes.now d.instance.value d.certificate.value) }
+    ensures low { IfOk result (λ d. HasLow d.instance.value d.certificate.value d.low) }
     ensures refused { IfErr result (λ answer. IsRefused form bytes.now answer.status (bytes_in answer.text)) }
 {
-    if let Some(ship) = first_unfit(&instance) {
-        return Err(unfit_answer(alloc, &instance, ship));
+    if let Some(ship) = first_unfit(&*instance) {
+        return Err(unfit_answer(alloc, &*instance, ship));
     }
-    let low = low_of(alloc, form, bytes, &instance, &certificate)?;
+    let low = low_of(alloc, form, bytes, &*instance, &*certificate)?;
     Ok(CheckedDossier {
         instance,
         certificate,
@@ -78,8 +79,8 @@ fn sound_of(
 // failure.
 #[tactic(auto, using(crate::proofs::RefusalLemmas::fault_refused))]
 pub(crate) fn read_sound(alloc: Global, form: Form, bytes: &[u8]) -> Result<CheckedDossier, Answer>
-    ensures sound { IfOk result (λ d. IsSound form bytes.now d.instance d.certificate) }
-    ensures low { IfOk result (λ d. HasLow d.instance d.certificate d.low) }
+    ensures sound { IfOk result (λ d. IsSound form bytes.now d.instance.value d.certificate.value) }
+    ensures low { IfOk result (λ d. HasLow d.instance.value d.certificate.value d.low) }
     ensures refused { IfErr result (λ answer. IsRefused form bytes.now answer.status (bytes_in answer.text)) }
 {
     match read_dossier(alloc, form, bytes) {

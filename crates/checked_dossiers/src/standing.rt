@@ -16,8 +16,8 @@ use std::alloc::Global;
 /// first failure. Want of memory alone refuses an open dossier that stands.
 #[tactic(auto, using(crate::proofs::ExactLemmas::standing_wants))]
 pub fn read_standing(alloc: Global, bytes: &[u8]) -> Result<CheckedDossier, Answer>
-    ensures standing { IfOk result (λ d. IsStanding bytes.now d.instance d.certificate) }
-    ensures low { IfOk result (λ d. HasLow d.instance d.certificate d.low) }
+    ensures standing { IfOk result (λ d. IsStanding bytes.now d.instance.value d.certificate.value) }
+    ensures low { IfOk result (λ d. HasLow d.instance.value d.certificate.value d.low) }
     ensures refused { IfErr result (λ answer. IsNoStanding bytes.now answer.status (bytes_in answer.text)) }
     ensures exactly { IfErr result (λ answer. (i : AnyInstance) (c : AnyCertificate) → IsStanding bytes.now i c → answer.status ≡ Status.NoMemory) }
 {

@@ -7,26 +7,25 @@ ghost use Rattle.checked_dossiers.specs.Accepted.{IsAccepted};
 ghost use Rattle.dossier_commands.specs.Checking.{AnswersCheck};
 
 use crate::dossier_texts::accepted_text;
-use certificate_parts::Certificate;
 use checked_dossiers::{CheckedDossier, DOSSIER_LIMIT, read_accepted};
 use lock_io::Source;
 use no_memory::NoMemory;
 use run_answers::{Answer, Status, Text, no_memory, read_source};
 use std::alloc::Global;
 
-// The cost of a certificate, in minutes.
-fn cost_in(certificate: &Certificate) -> u64
-    ensures { result ≡ certificate.now.cost }
+// The cost of the certificate of a dossier, in minutes.
+fn cost_in(dossier: &CheckedDossier) -> u64
+    ensures { result ≡ dossier.now.certificate.value.cost }
 {
-    certificate.cost
+    dossier.certificate.cost
 }
 
 // That the certificate of a dossier is accepted.
 fn accepted_answer(alloc: Global, bytes: &[u8], dossier: &CheckedDossier) -> Answer
-    requires { IsAccepted bytes.now dossier.now.instance dossier.now.certificate }
+    requires { IsAccepted bytes.now dossier.now.instance.value dossier.now.certificate.value }
     ensures { AnswersCheck bytes.now result.status (bytes_in result.text) }
 {
-    match accepted_text(alloc, cost_in(&dossier.certificate)) {
+    match accepted_text(alloc, cost_in(dossier)) {
         Ok(text) => Answer {
             status: Status::Good,
             text: Text::Made(text),

@@ -7,27 +7,26 @@ ghost use Rattle.checked_dossiers.specs.Standing.{IsStanding, HasLow};
 ghost use Rattle.dossier_commands.specs.Lowering.{AnswersLower};
 
 use crate::dossier_texts::lower_text;
-use certificate_parts::Certificate;
 use checked_dossiers::{CheckedDossier, DOSSIER_LIMIT, read_standing};
 use lock_io::Source;
 use no_memory::NoMemory;
 use run_answers::{Answer, Status, Text, no_memory, read_source};
 use std::alloc::Global;
 
-// The cost of a certificate, in minutes.
-fn cost_in(certificate: &Certificate) -> u64
-    ensures { result ≡ certificate.now.cost }
+// The cost of the certificate of a dossier, in minutes.
+fn cost_in(dossier: &CheckedDossier) -> u64
+    ensures { result ≡ dossier.now.certificate.value.cost }
 {
-    certificate.cost
+    dossier.certificate.cost
 }
 
 // The low and the cost of a certificate that stands.
 fn low_answer(alloc: Global, bytes: &[u8], dossier: &CheckedDossier) -> Answer
-    requires standing { IsStanding bytes.now dossier.now.instance dossier.now.certificate }
-    requires low { HasLow dossier.now.instance dossier.now.certificate dossier.now.low }
+    requires standing { IsStanding bytes.now dossier.now.instance.value dossier.now.certificate.value }
+    requires low { HasLow dossier.now.instance.value dossier.now.certificate.value dossier.now.low }
     ensures { AnswersLower bytes.now result.status (bytes_in result.text) }
 {
-    let cost = cost_in(&dossier.certificate);
+    let cost = cost_in(dossier);
     match lower_text(alloc, dossier.low, cost) {
         Ok(text) if dossier.low == cost => Answer {
             status: Status::Good,

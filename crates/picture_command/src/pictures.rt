@@ -39,7 +39,7 @@ fn plan_answer(alloc: Global, dial: Dial, bytes: &[u8]) -> Answer
     ensures { AnswersPlan dial bytes.now result.status (bytes_in result.text) }
 {
     match read_planned(alloc, bytes) {
-        Ok((instance, plan)) => named_answer(alloc, dial, bytes, &instance, &plan),
+        Ok((instance, plan)) => named_answer(alloc, dial, bytes, &*instance, &*plan),
         Err(answer) => answer,
     }
 }
@@ -47,15 +47,17 @@ fn plan_answer(alloc: Global, dial: Dial, bytes: &[u8]) -> Answer
 // The page of a dossier whose certificate is accepted.
 #[tactic(auto, using(crate::proofs::AnswerLemmas::dossier_pictured))]
 fn accepted_answer(alloc: Global, dial: Dial, bytes: &[u8], dossier: &CheckedDossier) -> Answer
-    requires { IsAccepted bytes.now dossier.now.instance dossier.now.certificate }
+    requires { IsAccepted bytes.now dossier.now.instance.value dossier.now.certificate.value }
     ensures { AnswersDossier dial bytes.now result.status (bytes_in result.text) }
 {
-    let CheckedDossier {
+    let instance = &*dossier.instance;
+    plan_page(
+        alloc,
+        dial,
+        Known::Optimal,
         instance,
-        certificate,
-        ..
-    } = dossier;
-    plan_page(alloc, dial, Known::Optimal, instance, &certificate.plan)
+        &dossier.certificate.plan,
+    )
 }
 
 // What is answered to a dossier.
@@ -81,18 +83,20 @@ fn known_of(low: u64, certificate: &Certificate) -> Known
 }
 
 // The page of an open dossier that stands.
+#[tactic(auto, using(crate::proofs::AnswerLemmas::open_pictured))]
 fn standing_answer(alloc: Global, dial: Dial, bytes: &[u8], dossier: &CheckedDossier) -> Answer
-    requires standing { IsStanding bytes.now dossier.now.instance dossier.now.certificate }
-    requires low { HasLow dossier.now.instance dossier.now.certificate dossier.now.low }
+    requires standing { IsStanding bytes.now dossier.now.instance.value dossier.now.certificate.value }
+    requires low { HasLow dossier.now.instance.value dossier.now.certificate.value dossier.now.low }
     ensures { AnswersOpenDossier dial bytes.now result.status (bytes_in result.text) }
 {
-    let CheckedDossier {
-        instance,
-        certificate,
-        low,
-    } = dossier;
-    let known = known_of(*low, certificate);
-    plan_page(alloc, dial, known, instance, &certificate.plan)
+    let known = known_of(dossier.low, &*dossier.certificate);
+    plan_page(
+        alloc,
+        dial,
+        known,
+        &*dossier.instance,
+        &dossier.certificate.plan,
+    )
 }
 
 // What is answered to an open dossier.

@@ -2,20 +2,17 @@
 ghost use Rattle.std.specs.Prelude.{◌≡◌};
 ghost use Rattle.day_play.specs.Lawful.{IsLawfulDay};
 ghost use Rattle.day_play.specs.Playing.{day_of};
-ghost use Rattle.instance_text.specs.Reading.{Means, instance_part, after_instance};
 ghost use Rattle.run_answers.specs.Sources.{AnswersSource, drained, plan_limit};
 ghost use Rattle.run_answers.specs.Written.{bytes_in};
 ghost use Rattle.plan_commands.specs.Planned.{IsPlanned, IsLegallyPlanned};
 ghost use Rattle.plan_commands.specs.Playing.{AnswersPlay};
 
 use crate::day_text::day_text;
-use crate::planned::{break_answer, defect_answer, fault_answer};
+use crate::planned::{break_answer, read_planned};
 use day_play::{Day, Played, play};
-use instance_text::split_instance;
 use lock_io::Source;
 use lock_model::{Instance, Plan};
 use no_memory::NoMemory;
-use plan_text::read_plan;
 use run_answers::{Answer, PLAN_LIMIT, Status, made, no_memory, read_source};
 use std::alloc::Global;
 
@@ -47,32 +44,14 @@ fn plan_answer(alloc: Global, bytes: &[u8], instance: &Instance, plan: &Plan) ->
     }
 }
 
-// What is answered to the bytes of an instance part and to those that follow it. What is read stays where it is
-// read to, since each place that a plan is moved to takes as much of the stack. Inlined, it would be there while
-// the instance is read.
-#[inline(never)]
-#[tactic(auto, using(crate::proofs::AnswerLemmas::play_illegal))]
-fn part_answer(alloc: Global, bytes: &[u8], instance: &Instance, rest: &[u8]) -> Answer
-    requires means { Means (instance_part bytes.now) instance.now }
-    requires rest { rest.now ≡ after_instance bytes.now }
-    ensures { AnswersPlay bytes.now result.status (bytes_in result.text) }
-{
-    let read = read_plan(instance, rest);
-    match &read {
-        Ok(plan) => plan_answer(alloc, bytes, instance, plan),
-        Err(bad) => fault_answer(alloc, bytes, instance, *bad),
-    }
-}
-
 // What is answered to the bytes of a text.
 #[tactic(auto, using(crate::proofs::AnswerLemmas::play_illegal))]
 fn text_answer(alloc: Global, bytes: &[u8]) -> Answer
     ensures { AnswersPlay bytes.now result.status (bytes_in result.text) }
 {
-    let split = split_instance(bytes);
-    match &split {
-        Ok((instance, rest)) => part_answer(alloc, bytes, instance, rest),
-        Err(bad) => defect_answer(alloc, bytes, *bad),
+    match read_planned(alloc, bytes) {
+        Ok((instance, plan)) => plan_answer(alloc, bytes, &*instance, &*plan),
+        Err(answer) => answer,
     }
 }
 

@@ -124,13 +124,13 @@ fn standing_answer<R: Threads + Wait + Sync, G: Gate + Sync>(
     options: &SolveOptions,
     gate: &G,
 ) -> Answer
-    requires standing { IsStanding bytes.now dossier.instance dossier.certificate }
+    requires standing { IsStanding bytes.now dossier.instance.value dossier.certificate.value }
     requires numbers { AreSolveNumbers options.now }
     ensures { AnswersResume options.now bytes.now result.status (bytes_in result.text) }
 {
-    let nodes = budget(&dossier.certificate, options.nodes);
-    let case = Case::new(dossier.instance, nodes, options.turns);
-    search_answer(rt, alloc, &case, &dossier.certificate, options, gate)
+    let nodes = budget(&*dossier.certificate, options.nodes);
+    let case = Case::new(Box::into_inner(dossier.instance), nodes, options.turns);
+    search_answer(rt, alloc, &case, &*dossier.certificate, options, gate)
 }
 
 // What is answered to the bytes of an open dossier.

@@ -43,9 +43,12 @@ fn boxed(alloc: Global, case: &Case, plan: &Plan) -> Result<Box<Book>, NoMemory>
     requires { IsLegal case.now.instance plan.now }
     ensures { IfOk result (λ book. book.value ≡ opening_book case.now plan.now) }
 {
-    match Box::new(alloc, open_book(alloc, case, plan.copy())?) {
-        Ok(book) => Ok(book),
-        Err(_) => Err(NoMemory),
+    match open_book(alloc, case, plan.copy()) {
+        Ok(book) => match Box::new(alloc, book) {
+            Ok(book) => Ok(book),
+            Err(_) => Err(NoMemory),
+        },
+        Err(NoMemory) => Err(NoMemory),
     }
 }
 

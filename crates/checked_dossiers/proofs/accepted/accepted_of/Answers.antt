@@ -7,6 +7,6 @@ use Rattle.checked_dossiers.proofs.accepted.accepted_of.Goals as goal
 pub returns-in-Ok-clause-accepted : goal.returns-in-Ok-clause-accepted
 returns-in-Ok-clause-accepted c =
     let d = c.in-Ok.dossier in
-    let sound : IsSound form.Whole c.args.bytes.now d.instance d.certificate = search rules in
-    let low : HasLow d.instance d.certificate d.low = search rules in
-    sound_accepted c.args.bytes.now d.instance d.certificate d.low sound low
+    let sound : IsSound form.Whole c.args.bytes.now d.instance.value d.certificate.value = search rules in
+    let low : HasLow d.instance.value d.certificate.value d.low = search rules in
+    sound_accepted c.args.bytes.now d.instance.value d.certificate.value d.low sound low
