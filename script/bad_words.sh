@@ -23,6 +23,7 @@ refuse() {
 
 check_option() {
   local name=${1%%=*}
+  if [ -z "$command" ] && [[ " $own_options " == *" $name "* ]]; then missing_word; return; fi
   case $name in
     -o | --output) refuse "-o needs the name of a file after it, and may stand once"; return ;;
     --clock) check_clock "${1#--clock}" "${2-}"; return ;;
@@ -35,12 +36,28 @@ check_option() {
   esac
   is_option "$name" || is_flag "$name" || { refuse "there is no option $name$(perhaps_option "$name"); $(what_it_takes)"; return; }
   if is_command "$command" && [[ " $(options_of "$command") " != *" $name "* ]]; then
-    refuse "$name isn't for $command; $(what_it_takes)"
+    refuse "$name is for $(who_takes "$name"), and not for $command; $(what_it_takes)"
     return
   fi
   [[ $seen != *" $name "* ]] || { refuse "$name stands twice"; return; }
   seen+="$name "
   check_text "$name" "$@"
+}
+
+# the commands that take an option of the program
+who_takes() {
+  local each takers=()
+  for each in $commands; do
+    if [[ " $(options_of "$each") " == *" $1 "* ]]; then takers+=("$each"); fi
+  done
+  in_words "${takers[@]}"
+}
+
+# one, two and three
+in_words() {
+  local last=${*: -1} others
+  if [ $# -gt 1 ]; then printf -v others '%s, ' "${@:1:$#-1}" && last="${others%, } and $last"; fi
+  echo "$last"
 }
 
 # a word that begins with one dash
@@ -68,13 +85,15 @@ check_text() {
   refuse "$1 takes a whole number from $(with_commas "$least") to $(with_commas "$most")${text:+, and not \"$text\"}$(perhaps_number "$text" "$least" "$most")$(about_time "$1" "$text")"
 }
 
-# the number that was perhaps meant by 10,000, 10k, 1e4 or 60s
+# the number that was perhaps meant by 10,000, 10k, 1e4 or 60s, and of seconds by 2m or 1h
 perhaps_number() {
   local text=${1//[,_\']/}
-  if [[ $text =~ ^([0-9]{1,7})(k|s|e([0-6]))$ ]]; then
+  if [[ $text =~ ^([0-9]{1,7})(k|s|m|h|e([0-6]))$ ]]; then
     case ${BASH_REMATCH[2]} in
       k) text=${BASH_REMATCH[1]}000 ;;
       s) text=${BASH_REMATCH[1]} ;;
+      m) if [ "$3" = 86400 ]; then text=$((10#${BASH_REMATCH[1]} * 60)); fi ;;
+      h) if [ "$3" = 86400 ]; then text=$((10#${BASH_REMATCH[1]} * 3600)); fi ;;
       *) text=$((10#${BASH_REMATCH[1]} * 10 ** BASH_REMATCH[3])) ;;
     esac
   fi
@@ -98,7 +117,7 @@ about_time() {
 
 check_replan_word() {
   if [ "$command" != replan ]; then
-    refuse "$1 is for replan, and not for ${command:-this}"
+    refuse "$1 is for replan, and not for $command"
   elif [ "$1" = --drop ]; then
     refuse "--drop needs the name of a ship after it; it may stand more than once"
   elif has_word --dossier; then
@@ -117,7 +136,7 @@ check_clock() {
   local time=${1#=}
   time=${time:-$2}
   if is_time_of_day "$time" && ! takes_clock "$command"; then
-    refuse "--clock is for solve, resume, judge, play, replan and picture, and not for ${command:-this}"
+    refuse "--clock is for solve, resume, judge, play, replan and picture, and not for $command"
   elif is_time_of_day "$time"; then
     refuse "--clock may stand once"
   else
@@ -142,7 +161,7 @@ check_seconds() {
   local text=${1#=}
   text=${text:-$2}
   if ! takes_seconds "$command"; then
-    refuse "--seconds is for solve and resume, and not for ${command:-this}"
+    refuse "--seconds is for solve and resume, and not for $command"
   elif ! in_range "$text" 1 86400; then
     refuse "--seconds takes a whole number from 1 to 86,400${text:+, and not \"$text\"}$(perhaps_number "$text" 1 86400)"
   elif names_option --nodes; then
@@ -156,7 +175,7 @@ check_title() {
   if [ "$command" = picture ]; then
     refuse "--title needs a text after it, and may stand once"
   else
-    refuse "--title is for picture, and not for ${command:-this}"
+    refuse "--title is for picture, and not for $command"
   fi
 }
 
@@ -164,7 +183,7 @@ check_search_word() {
   if searches "$command"; then
     refuse "$1 stands alone and once"
   else
-    refuse "$1 is for solve, resume, replan and trial, and not for ${command:-this}"
+    refuse "$1 is for solve, resume, replan and trial, and not for $command"
   fi
 }
 
@@ -226,8 +245,17 @@ perhaps_option() {
     t | time | timeout | limit | time-limit | minutes) means=--seconds ;;
     seed | n) means=--number ;;
     steps | iterations) means=--nodes ;;
-    output-file | save) means=-o ;;
+    output-file | outfile | save) means=-o ;;
+    remove | withdraw | cancel | without) means=--drop ;;
     v | verbose) means=--progress ;;
+    q | quiet | silent)
+      echo "; 2> /dev/null silences what the script says"
+      return
+      ;;
+    csv)
+      echo "; examples/csv_of_report.awk makes a table of a report"
+      return
+      ;;
     f | i | file | input | plan | instance | lock)
       echo "; a file is named without an option"
       return
@@ -247,6 +275,8 @@ what_else() {
     echo "; the minute that it is follows --now"
   elif is_time_of_day "$1" && takes_clock "$command"; then
     echo "; a time of day follows --clock"
+  elif [[ $1 =~ ^[0-9]+$ ]]; then
+    echo "; a number follows its option"
   elif [ ${#drops[@]} = 0 ] && [ -z "$output" ]; then
     echo "; -o $1 writes the answer to that file"
   fi
@@ -300,8 +330,14 @@ perhaps() {
 # what who names many files, as by *.lock, may have wanted
 many_days() {
   [ "$command" = solve ] && [ -e "$1" ] || return 0
+  if is_plan_or_report "$1"; then
+    echo "; solve makes the plan, and judge, play, picture and replan read one"
+    return
+  fi
   echo "; to solve many days, name them one at a time, as in: for day in *.lock; do ./glock solve \"\$day\"; done (docs/using.md shows more, and ./glock table prints a line for each report)"
 }
+
+is_plan_or_report() { [ -f "$1" ] && [[ $(sed -n '/^[^#]/{p;q}' -- "$1" | tr -d '\0') =~ ^(plan$|optimal\ cost\ |open\ |legal\ cost\ ) ]]; }
 
 missing_word() {
   if [ -z "$command" ]; then

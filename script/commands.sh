@@ -38,7 +38,10 @@ options_of() {
   esac
 }
 
-# the options of the script that a command takes
+# the options that the script answers itself
+own_options="-o --output --clock --seconds --title --progress --stats --drop --plan-text"
+
+# those of them that a command takes
 own_options_of() {
   echo "-o"
   if takes_clock "$1"; then echo "--clock"; fi

@@ -164,8 +164,10 @@ function name_of_two_words() {
 
 # a length and a width in one word
 function two_numbers(    i) {
-  for (i = 2; i <= NF; i++)
+  for (i = 2; i <= NF; i++) {
     if ($i ~ /^[0-9]+[x*,;\/][0-9]+$/) return " \"" $i "\" looks like two numbers; between them stands a space."
+    if ($i ~ /[A-Za-z0-9][,;][A-Za-z0-9].*[,;]/) return " Words are separated by spaces."
+  }
   return ""
 }
 
@@ -177,7 +179,7 @@ function is_way(word) { return word == "up" || word == "down" }
 
 function no_name(word) {
   return "\"" word "\" can't be a name: a name has 1 to 12 letters A to Z and a to z, digits, - or _" \
-    (word ~ /^[A-Za-z0-9_-]+$/ ? ", and this one has " length(word) "." : word ~ /^[ -~]+$/ ? "." : "; write ue where the letter is u with two dots, and e for one with an accent.")
+    (word ~ /^[A-Za-z0-9_-]+$/ ? ", and this one has " length(word) "." : word ~ /^[A-Za-z0-9_-]+[,;]$/ ? "; words are separated by spaces alone." : word ~ /^[ -~]+$/ ? "." : "; write ue where the letter is u with two dots, and e for one with an accent.")
 }
 
 function first_wrong_choice(    names, i, parts) {
@@ -240,10 +242,19 @@ function with_commas(whole,    text) {
 }
 
 function first_unknown() {
-  if ($1 == "close" || $1 == "lockage") return "there is no chamber named " $2 " above" perhaps($2, names_of["chamber"]) "." of_failure()
+  if ($1 == "close" || $1 == "lockage") return "there is no chamber named " $2 " above" perhaps_chamber() "." of_failure()
   if ($1 == "berth" && tolower($6) ~ /^(quay|left|right|-|none)$/ && ("ship " $2) in line_of) return "\"" $6 "\" is no ship; write * for the quay."
   if (!(("ship " $2) in line_of)) return "there is no ship named " $2 " in the instance" perhaps($2, names_of["ship"]) "."
   return $1 == "berth" ? "there is no ship named " $6 " in the instance" perhaps($6, names_of["ship"]) "." : ""
+}
+
+# the chamber that is spelt nearly so, or else all that there are
+function perhaps_chamber(    near, names) {
+  near = perhaps($2, names_of["chamber"])
+  if (near != "" || of_failure() != "") return near
+  names = substr(names_of["chamber"], 2)
+  gsub(/ /, ", ", names)
+  return names == "" ? "; write its chamber line first" : ", but " names
 }
 
 # of a chamber that is no more

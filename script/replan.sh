@@ -85,7 +85,12 @@ shown_time() {
 
 # the ships of the plan that the lock's file hasn't
 tell_withdrawn() {
-  local ship berth lockage start state many line lines
+  local ship berth lockage start state many line lines table
+  table=$(ships_of_plan)
+  if [ -n "$table" ] && ! grep -qv ' 0$' <<<"$table"; then
+    say_at "${second_name:-$first_name}" "none of its ships is in $first_name; perhaps it is the plan of another lock or day"
+    return
+  fi
   while read -r ship berth lockage start state many line; do
     if [ "$line" != 0 ]; then continue; fi
     if [ "$state" = begun ]; then say_begun "$ship" "$lockage" "$start" 0; continue; fi
@@ -93,7 +98,7 @@ tell_withdrawn() {
     if [ "$many" = 1 ]; then lines="lines $(line_number "$lockage") and $(line_number "$berth")"; fi
     say "$ship is in the plan and not in $first_name. Where $ship is withdrawn say --drop $ship, or take $lines out of" \
       "${second_name:-$first_name}$(keep_turn "$many")"
-  done < <(ships_of_plan)
+  done <<<"$table"
 }
 
 line_number() { local place; place=$(place_of "$1"); echo "${place##*:}"; }

@@ -22,10 +22,10 @@ run_program() {
     "${run[@]}" "${program_words[@]}" <&0 >"$answer" &
   fi
   running=$!
+  start_watch
   trap 'stop_program INT' INT
   trap 'stop_program TERM' TERM
   trap 'stop_program HUP' HUP
-  start_watch
   wait "$running" 2>/dev/null
   status=$?
   end_watch
@@ -43,7 +43,7 @@ limit_memory() {
 }
 
 # An unproved program keeps a note of each address, for which it asks more than any machine has.
-has_address_checks() { is_unproved_run || [ "${run[0]%/*}" = "$kept_folder" ] || { is_installed && ! has_proved_programs; }; }
+has_address_checks() { is_unproved_run || [ "${run[-1]%/*}" = "$kept_folder" ] || { is_installed && ! has_proved_programs; }; }
 
 # in KB: what the machine has free, and no more than what is left to the group of processes that the script is in
 free_memory() {
@@ -68,17 +68,19 @@ stop_program() {
   die_by "$1"
 }
 
+# Without traps: a watch that is stopped before it has begun would follow them, and take the script's folder away.
 start_watch() {
   watch= begun=${begun:-$SECONDS}
+  trap - EXIT
   if is_unproved_run; then
     watch_build &
+    watch=$!
   elif shows_progress; then
     show_progress &
-  else
-    return 0
+    watch=$!
   fi
-  watch=$!
-  disown "$watch"
+  trap leave EXIT
+  [ -z "$watch" ] || disown "$watch"
 }
 
 end_watch() {

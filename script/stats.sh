@@ -1,9 +1,12 @@
-# What --stats says at the end, on standard error: the time that the program took, what it told last of its search, and what
-# stands in a dossier that it printed.
+# What --stats says at the end, on standard error: the time that the program took, the numbers of its search, and what stands in
+# a dossier that it printed.
 
 # before the program runs, and after it
 begin_stats() { note_times begun; }
-end_stats() { note_times ended; }
+end_stats() {
+  note_times ended
+  if $wants_stats; then exact=$(exact_numbers); fi
+}
 
 # A subshell has times of its own, so they are written to a file.
 note_times() {
@@ -25,7 +28,7 @@ tell_stats() {
   local wall cpu
   $wants_stats && [ -z "$wrong" ] || return 0
   read -r wall cpu < <(times_between)
-  say "stats seconds $(as_seconds "$wall") of the processor $(as_seconds "$cpu") workers $(count_of_workers)$(last_numbers)"
+  say "stats seconds $(as_seconds "$wall") of the processor $(as_seconds "$cpu") workers $(count_of_workers)$exact$(last_numbers)"
   if is_dossier; then LC_ALL=C awk -f "$script/stats.awk" "$answer" | sed 's/^/glock: stats /' >&2; fi
 }
 
@@ -43,9 +46,25 @@ count_of_workers() {
   if [ "$command" = trial ]; then echo 1; else echo 2; fi
 }
 
-# The program tells them once a second, so the search may have gone on since.
+# A report tells its cost and its low, and the steps of a search that used all of them.
+exact_numbers() {
+  local line
+  IFS= read -r line < <(tr -d '\0' <"$answer")
+  if [[ $line =~ ^optimal\ cost\ ([0-9]+)$ ]]; then
+    echo "; exact: cost ${BASH_REMATCH[1]} low ${BASH_REMATCH[1]}"
+  elif [[ $line =~ ^open\ nodes\ ([0-9]+)\ low\ ([0-9]+)\ cost\ ([0-9]+)$ ]]; then
+    echo "; exact: steps ${BASH_REMATCH[1]} cost ${BASH_REMATCH[3]} low ${BASH_REMATCH[2]}"
+  elif [[ $line =~ ^open\ turns\ .*\ low\ ([0-9]+)\ cost\ ([0-9]+)$ ]]; then
+    echo "; exact: cost ${BASH_REMATCH[2]} low ${BASH_REMATCH[1]}"
+  fi
+}
+
+# The program tells its numbers once a second, so the search may have gone on since.
 last_numbers() {
   local line
+  [[ $exact != *steps* ]] || return 0
   line=$([ -z "$numbers" ] || grep -a '^nodes ' "$numbers" | tail -n 1)
-  [ -z "$line" ] || echo "; told last: ${line/nodes/steps}"
+  line=${line/nodes/steps}
+  if [ -n "$exact" ]; then line=${line% cost *}; fi
+  [ -z "$line" ] || echo "; up to a second before the end: $line"
 }

@@ -14,7 +14,7 @@ instal | there is no command "instal"; perhaps install is meant
 moor | there is no command "moor"; the commands are
 solve nofile | there is no file "nofile"
 solve solve | there is no file "solve"
-solve evening.lock evening.plan | one too many; to solve many days, name them one at a time
+solve evening.lock evening.plan | one too many; solve makes the plan, and judge, play, picture and replan read one
 solve evening.lock two-chambers.lock | solve reads one file, so "two-chambers.lock" is one too many; to solve many days
 check evening.lock two-chambers.lock | check reads one file, so "two-chambers.lock" is one too many
 judge evening.lock evening.plan evening.plan | one file too many
@@ -22,7 +22,7 @@ lot evening.lock | lot reads no file
 solve --node 5 | there is no option --node; perhaps --nodes is meant; solve takes --nodes, --turns, --workers, --dossier, --keep, -o, --clock
 check --outptu x | there is no option --outptu; perhaps --output is meant; check takes -o
 solve -n 5 | "-n" is no option
-lot --nodes 5 | --nodes isn't for lot
+lot --nodes 5 | --nodes is for solve, trial, replan and resume, and not for lot
 solve --nodes 0 | from 1 to 1,000,000, and not "0"
 solve --turns=200001 | from 1 to 200,000, and not "200001"
 solve --workers 9 | from 1 to 8, and not "9"
@@ -47,7 +47,7 @@ solve --stats --stats | --stats stands alone and once
 trial --stats=1 | --stats stands alone and once
 judge --stats | --stats is for solve, resume, replan and trial, and not for judge
 solve --keep=1 | --keep stands alone
-check --keep | --keep isn't for check; check takes -o
+check --keep | --keep is for solve and resume, and not for check; check takes -o
 replan evening.lock evening.plan | replan needs --now and the minute that it is, or --from
 replan evening.lock evening.plan --now 5 --from 5 | --from and --now can't stand together
 replan evening.lock evening.plan --from=5 --now=5 | --from and --now can't stand together
@@ -58,10 +58,10 @@ replan evening.lock evening.plan --now 5 --drop | --drop needs the name of a shi
 replan evening.lock evening.plan --now 5 --plan-text --plan-text | --plan-text stands alone and once
 replan evening.lock evening.plan --now 5 --plan-text=1 | --plan-text stands alone and once
 replan evening.lock evening.plan --now 5 --plan-text --dossier | --plan-text and --dossier can't stand together
-solve evening.lock --now 5 | --now isn't for solve
+solve evening.lock --now 5 | --now is for replan and picture, and not for solve
 picture evening.lock evening.plan --now 1000001 | --now takes a whole number from 0 to 1,000,000, and not "1000001"
 picture evening.lock evening.plan --clock 17:00 --now 08:00 | and not "08:00"; minute 0 is 17:00, and a time of the next day is written +1 08:00
-picture evening.lock evening.plan --from 5 | --from isn't for picture; picture takes --now, -o, --clock
+picture evening.lock evening.plan --from 5 | --from is for replan, and not for picture; picture takes --now, -o, --clock
 picture evening.lock evening.plan --title | --title needs a text after it, and may stand once
 picture evening.lock evening.plan --title=a --title b | --title needs a text after it, and may stand once
 solve evening.lock --title=a | --title is for picture, and not for solve
@@ -81,6 +81,11 @@ res | perhaps resume is meant
 solve evening | there is no file "evening"; perhaps evening.lock is meant
 solve evenning.lock | there is no file "evenning.lock"; perhaps evening.lock is meant
 solve evening.lock 17:00 | "17:00" is one too many; a time of day follows --clock
+solve evening.lock --progress 1 | "1" is one too many; a number follows its option
+solve evening.lock --csv | there is no option --csv; examples/csv_of_report.awk makes a table of a report
+solve evening.lock --quiet | there is no option --quiet; 2> /dev/null silences what the script says
+replan evening.lock evening.plan --now 150 --remove gull | there is no option --remove; perhaps --drop is meant
+solve evening.lock --seconds 2m | --seconds takes a whole number from 1 to 86,400, and not "2m"; perhaps 120 is meant
 solve evening.lock --dossier x | "x" is one too many; -o x writes the answer to that file
 solve -clock 17:00 | "-clock" is no option; options begin with two dashes; perhaps --clock is meant
 solve --out x | there is no option --out; perhaps --output is meant
@@ -162,9 +167,12 @@ $s/$/\ncertificate/ | line 14 fault 3 Word | a certificate begins here, so this 
 $s/end/plan/ | line 13 fault 3 Word | the plan begins here, and the line end before it is missing.
 1s/1/2/;4s/^/close main 10 30\nclose main 20 40\n/ | line 5 fault 14 Overlap | the closure shares minutes with that in line 4, from 10 to 30
 4s/ship/lockage/ | line 4 fault 3 Word | no line may begin with "lockage" here
+4s/alva/alva,/ | line 4 fault 7 Name | "alva," can't be a name | words are separated by spaces alone.
+4s/alva up 1100/alva;up;1100;/ | line 4 fault 4 Count | this line has 5 words; a ship line has 7 words: ship, name, up or down, length, width, arrival, handling; with `glock 2` or `glock 3` a cargo class may follow. Words are separated by spaces.
 2,3d | line 11 fault 10 NoChamber | the lock has no chamber
 4,12d | line 4 fault 11 NoShip | there is no ship
 13d | line 13 fault 12 NoEnd | the text stops without its last line
+1s/$/\nclose main 1 2/;1s/1/2/ | line 2 fault 13 Unknown | there is no chamber named main above; write its chamber line first.
 1s/1/2/;4s/^/close mian 1 2\n/ | line 4 fault 13 Unknown | there is no chamber named mian above; perhaps main is meant.
 1s/1/2/;4s/^/close main 9 2\n/ | line 4 fault 14 Overlap | the closure begins at minute 9 and ends at minute 2
 ROWS
@@ -239,6 +247,7 @@ $s/$/\nlockage main up 900/ | plan line 21 fault 3 Word | the line end is in lin
 3s/ 0$/ noon/ | plan line 3 fault 5 Number | "noon" stands for the minute of the start
 4s/10/100001/ | plan line 4 fault 6 Range | 100001 stands for the place along the chamber, which must be from 0 to 100,000
 3s/main/mian/ | plan line 3 fault 7 Unknown | there is no chamber named mian above; perhaps main is meant.
+3s/main/north/ | plan line 3 fault 7 Unknown | there is no chamber named north above, but main, side.
 3s/main/Main/ | plan line 3 fault 7 Unknown | there is no chamber named Main above; perhaps main is meant.
 4s/alva/alwa/ | plan line 4 fault 7 Unknown | there is no ship named alwa in the instance; perhaps alva is meant.
 9s/cora/kora/ | plan line 9 fault 7 Unknown | there is no ship named kora

@@ -39,7 +39,7 @@ stats() {
   TAKES=1 GLOCK_PROGRAM=$room/slow call $1
   check "stats: $1" gives 0 "optimal cost 400" "of the processor "
   check "stats: $1, by the clock" grep -Eq '^glock: stats seconds [1-9][0-9]*[.][0-9]{2} of the processor [0-9]+[.][0-9]{2} workers' "$room/err"
-  check "stats: $1, workers and numbers" holds "$err" "workers $2; told last: steps 12 cost 400 low 391"
+  check "stats: $1, workers and numbers" holds "$err" "workers $2; exact: cost 400 low 400; up to a second before the end: steps 12"
   check "stats: $1, nothing else" [ "$(wc -l <"$room/err")" = 2 ]
 }
 rows stats <<'ROWS'
@@ -53,9 +53,15 @@ wanted=$out
 call solve evening.lock --workers 1 --dossier --stats
 check "stats: of a dossier" gives 0 "$wanted" "glock: stats ships       9"
 check "stats: its cuts by names" holds "$err" "glock: stats cut 0       side row cora dina"
+call solve two-chambers.lock --workers 1 --nodes 50 --stats
+check "stats: an open report's numbers are exact" gives 1 "open nodes 50" "workers 1; exact: steps 50 cost "
+call solve two-chambers.lock --workers 1 --nodes 50 --keep --stats
+check "stats: of an open dossier" gives 1 "certificate open" "glock: stats dossier     open"
+check "stats: no report tells what is exact" lacks "$err" exact
 call solve --stats --seconds 1 --workers 1 long.lock
 check "stats: of an end by the clock" gives 1 "open nodes" "glock: stats seconds "
-check "stats: not of the run that was stopped" lacks "$err" "told last"
+check "stats: not of the run that was stopped" lacks "$err" "before the end"
+check "stats: the steps, cost and low of the report" holds "$err" "workers 1; exact: steps "
 call solve --stats bad.lock
 check "stats: of a refusal" gives 3 "fault" "glock: stats seconds "
 

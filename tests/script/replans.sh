@@ -27,6 +27,7 @@ replan shut.lock evening.plan --now 130 | 10 | illegal lockage 3 Shut | side is 
 replan gone.lock evening.plan --now 130 | 10 | plan line 5 fault 7 Unknown | there is no chamber named side above. A chamber that fails keeps its line
 replan evening.lock 1700.report --now 19:30 --clock 16:00 | 0 | optimal cost 270 | 1700.report: warning: by its ships' arrivals minute 0 is 17:00 in this report, and not 16:00
 replan less.lock evening.plan --now 150 | 10 | plan line 15 fault 7 Unknown | gull is in the plan and not in less.lock. Where gull is withdrawn say --drop gull, or take lines 14 and 15 out of evening.plan (the second alone, where the chamber was turned for this lockage)
+replan two-chambers.lock evening.plan --now 150 | 10 | plan line 3 fault 7 Unknown | evening.plan: none of its ships is in two-chambers.lock; perhaps it is the plan of another lock or day
 replan less.lock evening.plan --from 150 | 10 | plan line 15 fault 7 Unknown | or take lines 14 and 15 out of evening.plan
 replan less.lock 1700.report --from 150 | 10 | fault 7 Unknown | out of 1700.report
 replan less.lock evening.plan --now 250 | 10 | plan line 15 fault 7 Unknown | evening.plan:14: the lockage of gull has begun: it starts at minute 240, before minute 250, so gull can't be withdrawn; put the line of gull back into less.lock
