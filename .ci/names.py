@@ -3,10 +3,12 @@
 
 Of each word in back-ticks in README.md, docs/ and benches/README.md that is a path, a path of Rust's (`CRATE::NAME`) or a
 name (`snake_case`, `CamelCase`), whether it is in the tree; of each word `--option`, whether the script or the program
-has it; of each figure of README's Speed, whether it stands in benches/README.md or docs/tested.md. It prints what isn't
-there and `N names, M missing`; the status is 0 where none is missing.
+has it; of each figure of README.md with a unit or decimals, whether a figure of benches/README.md with that unit is the
+same: equal, or README's is that one rounded, to two digits or more. It prints what isn't there and `N names, M missing`;
+the status is 0 where none is missing.
 """
 
+import decimal
 import pathlib
 import re
 import subprocess
@@ -15,6 +17,8 @@ import sys
 TOP = pathlib.Path(__file__).resolve().parent.parent
 DOCUMENTS = [TOP / "README.md", *sorted((TOP / "docs").glob("*.md")), TOP / "benches/README.md"]
 NAME = r"[a-z][a-z0-9]+(?:_[a-z0-9]{2,})+|[A-Z][a-z0-9]+(?:[A-Z][a-z0-9]*)+"
+UNITS = {"second": "s", "seconds": "s", "minute": "minutes", "hundredth": "hundredths"}
+FIGURE = re.compile(r"(?<![\w.,-])(?P<number>\d[\d,]*(?:\.\d+)?)(?![\w-]|\.\d)(?: (?:processor )?(?P<unit>s|seconds?|minutes?|KB|MB|GB|hundredths?)\b)?")
 # words of the kit, of other programs, and of examples that a document makes up
 FOREIGN = set("""may_wait must_fail must-fail assert_eq assert_bytes fail_alloc memcpy memmove memset html5lib array_vec_len
 slice_index_or sum_by count_by zero_or_more same_Some from_slice to_vec""".split())
@@ -47,11 +51,28 @@ def named(text):
             yield "option", word
 
 
+def figures_of(text):
+    """The figures of a text with a unit, or with decimals and none: as it is written, its number and its unit."""
+    plain = re.sub(r"```.*?```|`[^`\n]*`|\]\([^)\n]*\)", " ", text, flags=re.DOTALL)
+    for found in FIGURE.finditer(plain):
+        number, unit = found["number"], found["unit"]
+        if unit or "." in number:
+            yield found[0], decimal.Decimal(number.replace(",", "")), UNITS.get(unit, unit)
+
+
+def is_same(figure, measured):
+    """Whether a figure is the measured one, or that one rounded to as many decimals as the figure has, with two digits or more."""
+    exponent = figure.as_tuple().exponent
+    if measured.as_tuple().exponent > exponent:
+        return False
+    is_rounded = measured.quantize(figure, decimal.ROUND_HALF_UP) == figure and figure.adjusted() - exponent >= 1
+    return figure == measured or is_rounded
+
+
 def figures():
-    speed = (TOP / "README.md").read_text().split("## Speed", 1)[1].split("\n## ", 1)[0]
-    there = (TOP / "benches/README.md").read_text() + (TOP / "docs/tested.md").read_text()
-    for figure in re.findall(r"\b\d[\d,.]*(?: KB| MB| s\b)", speed):
-        yield figure, figure in there or re.search(rf"\b{re.escape(figure.split()[0].rstrip('0').rstrip('.'))}", there)
+    measured = [(number, unit) for _, number, unit in figures_of((TOP / "benches/README.md").read_text())]
+    for written, number, unit in figures_of((TOP / "README.md").read_text()):
+        yield written, any(unit in (None, of) and is_same(number, it) for it, of in measured)
 
 
 def main():

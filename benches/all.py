@@ -2,8 +2,8 @@
 """all.py PROGRAM [OTHER] [--only WORD ..]: prints the tables of README.md, or those whose titles have one of these words.
 
 PROGRAM is glock's, OTHER one with the same command line to be timed beside it. Each instance is solved by one worker with the
-default budget, and times are those of the processor, where a table doesn't say otherwise. The machine's speed changes within
-minutes, so what is to be compared is run by turns."""
+program's own budget, of more than 24 ships with the script's, and times are those of the processor, where a table doesn't say
+otherwise. The machine's speed changes within minutes, so what is to be compared is run by turns."""
 
 import argparse
 import os
@@ -23,7 +23,7 @@ CROWD_SIZES = (12, 14, 16, 20, 24)
 DAYS = ["lot,48,2 3", "lot,64,2 3", "lot,64,3 3", "lot,96,1 2", "lot,96,2 3", "lot,96,4 3", "crowd,32,1 2", "crowd,32,2 2", "day,48,2 3",
         "day,48,3 3", "day,72,1 2", "day,72,2 2", "day,72,4 1", "steady,48,2,70 2", "steady,48,3,70 2", "steady,64,2,70 2", "steady,96,2,70 1",
         "day,72,3 1"]
-SHARED = [("lot", 6, 24, 2), ("lot", 13, 24, 1), *(("crowd", number, 24, chambers) for number in (1, 3) for chambers in (1, 2, 3)), ("crowd", 1, 20, 3)]
+SHARED = [("crowd", 1, 24, 2), ("steady", 1, 64, 2, 70), ("steady", 1, 48, 3, 70)]
 DOSSIERS = [(1, 24, 2), (1, 24, 3), (1, 24, 1), (3, 24, 1), (1, 20, 3), (3, 24, 2), (3, 24, 3)]
 
 
@@ -53,6 +53,11 @@ def run(words, data):
 
 def solve(program, instance, *more):
     return run([program, "solve", "--workers", "1", *more], instance)
+
+
+def budget_of(ships):
+    """The script's budget for a day, where it isn't the program's own."""
+    return ["--turns", "200000", "--nodes", "4000" if ships <= 48 else "1500"] if ships > 24 else []
 
 
 def instance_of(kind, number, *sizes):
@@ -111,10 +116,9 @@ def days(given):
     for row in DAYS:
         kind, count = row.split(" ")
         name, *sizes = kind.split(",")
-        nodes = ["--nodes", "4000" if int(sizes[0]) <= 48 else "1500"]
         for number in range(1, int(count) + 1):
             instance = instance_of(name, number, *map(int, sizes))
-            found = solve(given.programs[0], instance, "--dossier", "--keep", "--turns", "200000", *nodes)
+            found = solve(given.programs[0], instance, "--dossier", "--keep", *budget_of(int(sizes[0])))
             checked = run([given.programs[0], "lower" if found.status else "check"], found.text)
             print(f"| {kind} | {number} | {checked.first()} | {found.used:.2f} s | {len(found.text):,} | {checked.used:.2f} s |", flush=True)
 
@@ -122,12 +126,12 @@ def days(given):
 def workers(given):
     """Several workers, by the clock, medians of three"""
     print("| instance | one worker | two | four |\n|---|---|---|---|")
-    for kind, number, ships, chambers in SHARED:
-        instance, seconds = instance_of(kind, number, ships, chambers), {1: [], 2: [], 4: []}
+    for kind, number, ships, chambers, *p in SHARED:
+        instance, seconds = instance_of(kind, number, ships, chambers, *p), {1: [], 2: [], 4: []}
         for _ in range(3):
             for count, found in seconds.items():
-                found.append(run([given.programs[0], "solve", "--workers", str(count)], instance).clock)
-        cells = [f"{statistics.median(found):.3f} s" for found in seconds.values()]
+                found.append(run([given.programs[0], "solve", "--workers", str(count), *budget_of(ships)], instance).clock)
+        cells = [f"{statistics.median(found):.2f} s" for found in seconds.values()]
         print(f"| {kind} {number} of {ships} on {chambers} | {' | '.join(cells)} |", flush=True)
 
 
@@ -144,16 +148,19 @@ def dossiers(given):
 
 
 def second_checker(given):
-    """The second checker"""
-    checker = [sys.executable, str(TOP / "checker/check_dossier.py")]
-    queue = solve(given.programs[0], (TOP / "examples/queue-24.lock").read_bytes(), "--dossier").text
-    print("| dossier | bytes | time |\n|---|---|---|")
-    for name, dossier in (("the queue of 24", queue), ("two arrivals far apart", (TOP / "tests/checker/far_apart.dossier").read_bytes())):
+    """Examples, and the second checker"""
+    program, checker = given.programs[0], [sys.executable, str(TOP / "checker/check_dossier.py")]
+    rows = [(name, solve(program, (TOP / f"examples/{name}.lock").read_bytes(), "--dossier")) for name in ("evening", "queue-24")]
+    rows = [(name, found.text, f"{found.used:.2f} s") for name, found in rows]
+    rows.append(("far_apart", (TOP / "tests/checker/far_apart.dossier").read_bytes(), ""))
+    print("| dossier | bytes | solving | `check` | second checker |\n|---|---|---|---|---|")
+    for name, dossier, solving in rows:
         with tempfile.NamedTemporaryFile() as file:
             file.write(dossier)
             file.flush()
-            judged = run([*checker, file.name], b"")
-        print(f"| {name} | {len(dossier):,} | {judged.used:.1f} s |")
+            own, second = run([program, "check"], dossier), run([*checker, file.name], b"")
+        assert own.text == second.text, (own, second)
+        print(f"| {name} | {len(dossier):,} | {solving} | {own.used:.2f} s | {second.used:.1f} s |")
 
 
 def main():

@@ -67,7 +67,7 @@ def legal_placement(deck, spots):
             and all(berthed(deck, spots, i) for i in ships))
 
 
-# Refutations: why the ships of a cut share no lockage (formats.md, Quick reasons to Refutations as numbers) ----------
+# Refutations (formats.md, Quick reasons to Spot values and spot trees; rules.md, berth case and berth tree) -----------
 
 
 def too_much(sizes, room, gap, across_room, across_gap):
