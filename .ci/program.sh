@@ -48,15 +48,16 @@ examples_are_solved() {
   done
 }
 
-# the stack that README names is enough, also for as many ships as there may be and all workers
+# the stack that README names is enough, also for as many ships as there may be and all workers; the environment lies on it too,
+# and is left out
 stack_is_enough() {
-  local program=crates/lock_main/out/lock_main dossier=out/queue-24.dossier lot answer status
-  mkdir -p out && (ulimit -s 256 && "$program" solve --dossier <examples/queue-24.lock >"$dossier") || return 1
-  answer=$(ulimit -s 80 && "$program" check <"$dossier") && rm "$dossier" || return 1
+  local run=(env -i crates/lock_main/out/lock_main) dossier=out/queue-24.dossier lot answer status
+  mkdir -p out && (ulimit -s 256 && "${run[@]}" solve --dossier <examples/queue-24.lock >"$dossier") || return 1
+  answer=$(ulimit -s 80 && "${run[@]}" check <"$dossier") && rm "$dossier" || return 1
   [[ $answer = "accepted cost "* ]] || return 1
-  lot=$("$program" lot --number 1 --ships 96 --chambers 2) || return 1
-  answer=$(ulimit -s 256 && "$program" solve --nodes 2000 --workers 8 <<<"$lot") && status=0 || status=$?
+  lot=$("${run[@]}" lot --number 1 --ships 96 --chambers 2) || return 1
+  answer=$(ulimit -s 256 && "${run[@]}" solve --nodes 2000 --workers 8 <<<"$lot") && status=0 || status=$?
   [ $status = 0 ] && [[ $answer = "optimal cost "* ]] || return 1
-  cat examples/evening.lock examples/evening.plan | (ulimit -s 80 && "$program" judge >/dev/null) &&
-    cat examples/evening.lock examples/evening.plan | (ulimit -s 80 && "$program" play >/dev/null)
+  cat examples/evening.lock examples/evening.plan | (ulimit -s 80 && "${run[@]}" judge >/dev/null) &&
+    cat examples/evening.lock examples/evening.plan | (ulimit -s 80 && "${run[@]}" play >/dev/null)
 }
