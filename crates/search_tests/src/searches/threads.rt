@@ -2,9 +2,11 @@
 
 use crate::fixture::case_of;
 use book_core::Case;
-use gates::{LastGate, Stage};
+use gates::{Gate, LastGate, Point, Stage};
 use instance_text::read_instance;
 use solve_workers::solve;
+use std::sync::atomic::Ordering::SeqCst;
+use std::sync::atomic::{AtomicBool, AtomicU64};
 use std::test::Fail;
 
 // Three ships of which no two fit a chamber together, and two equal chambers: a cut for each pair
@@ -28,5 +30,39 @@ fn a_worker_closes_by_the_cuts_of_another(rt: HostRuntime) -> Result<(), Fail> {
     let solved = solve(&rt, rt.alloc(), &case, 2, &gate)?;
     assert!(rt; gate.freed());
     assert!(rt; solved.book.cut(0).is_some() && solved.book.cut(3).is_none());
+    Ok(())
+}
+
+// Notes the greatest best cost that was read, and whether the caller took a slot of the book alone.
+#[derive(Drop)]
+struct NotedGate {
+    most: AtomicU64,
+    alone: AtomicBool,
+}
+
+impl Gate for NotedGate {
+    fn at(&self, _worker: u8, point: Point) {
+        match point {
+            Point::Read(cost) => {
+                self.most.fetch_max(cost, SeqCst);
+            }
+            Point::Used(_) => self.alone.store(true, SeqCst),
+            _ => {}
+        }
+    }
+}
+
+// The cost that workers begin with is that of the first plan. What they have brought to an end, the caller
+// doesn't search again.
+#[test]
+fn workers_search_a_small_budget_to_its_end(rt: HostRuntime) -> Result<(), Fail> {
+    let case = case_from(EQUAL)?;
+    let gate = NotedGate {
+        most: AtomicU64::new(0),
+        alone: AtomicBool::new(false),
+    };
+    let solved = solve(&rt, rt.alloc(), &case, 2, &gate)?;
+    assert!(rt; gate.most.load(SeqCst) == solved.book.opening_cost());
+    assert!(rt; solved.book.cut(0).is_some() && !gate.alone.load(SeqCst));
     Ok(())
 }
