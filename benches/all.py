@@ -20,7 +20,7 @@ from day import day
 HERE = pathlib.Path(__file__).resolve().parent
 TOP = HERE.parent
 CROWD_SIZES = (12, 14, 16, 20, 24)
-DAYS = ["lot,48,2 3", "lot,64,2 3", "lot,96,1 2", "lot,96,2 3", "crowd,32,1 2", "crowd,32,2 2", "day,48,2 3",
+DAYS = ["lot,48,2 3", "lot,96,1 2", "lot,96,2 3", "crowd,32,1 2", "crowd,32,2 2", "day,48,2 3",
         "day,48,3 3", "day,72,1 2", "day,72,2 2", "day,72,3 2", "day,72,4 2", "steady,48,2,70 2", "steady,48,3,70 2", "steady,64,2,70 2",
         "steady,96,2,70 1"]
 SHARED = [("crowd", 1, 24, 2), ("steady", 1, 64, 2, 70), ("steady", 1, 48, 3, 70)]
