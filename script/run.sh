@@ -90,7 +90,7 @@ end_watch() {
     if [ -t 2 ] && [ $((SECONDS - begun)) -ge 1 ]; then printf '\r\033[K' >&2; fi
   fi
   # what the program said beside its numbers
-  [ -z "$numbers" ] || grep -av '^nodes ' "$numbers" >&2
+  [ -z "$numbers" ] || grep -Eav '^(nodes|ended) ' "$numbers" >&2
 }
 
 # Who reads what the script writes doesn't wait for a last sleep.

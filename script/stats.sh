@@ -46,20 +46,30 @@ count_of_workers() {
   if [ "$command" = trial ]; then echo 1; else echo 2; fi
 }
 
+# What the program told as it ended of its whole search: steps, rounds of prices, cuts, and the first low, before any price.
+steps_of_search() {
+  local ended
+  ended=$([ -z "$numbers" ] || grep -a '^ended ' "$numbers" | tail -n 1)
+  [ -z "$ended" ] || echo "${ended/ended nodes/ steps}"
+}
+
 # A report tells its cost and its low, and the steps of a search that used all of them.
 exact_numbers() {
-  local line
+  local line steps
+  steps=$(steps_of_search)
   IFS= read -r line < <(tr -d '\0' <"$answer")
   if [[ $line =~ ^optimal\ cost\ ([0-9]+)$ ]]; then
-    echo "; exact: cost ${BASH_REMATCH[1]} low ${BASH_REMATCH[1]}"
+    echo "; exact:$steps cost ${BASH_REMATCH[1]} low ${BASH_REMATCH[1]}"
   elif [[ $line =~ ^open\ nodes\ ([0-9]+)\ low\ ([0-9]+)\ cost\ ([0-9]+)$ ]]; then
-    echo "; exact: steps ${BASH_REMATCH[1]} cost ${BASH_REMATCH[3]} low ${BASH_REMATCH[2]}"
+    echo "; exact:${steps:- steps ${BASH_REMATCH[1]}} cost ${BASH_REMATCH[3]} low ${BASH_REMATCH[2]}"
   elif [[ $line =~ ^open\ turns\ .*\ low\ ([0-9]+)\ cost\ ([0-9]+)$ ]]; then
-    echo "; exact: cost ${BASH_REMATCH[2]} low ${BASH_REMATCH[1]}"
+    echo "; exact:$steps cost ${BASH_REMATCH[2]} low ${BASH_REMATCH[1]}"
+  elif [ -n "$steps" ]; then
+    echo "; exact:$steps"
   fi
 }
 
-# The program tells its numbers once a second, so the search may have gone on since.
+# A program that was stopped told its numbers last up to a second before.
 last_numbers() {
   local line
   [[ $exact != *steps* ]] || return 0

@@ -32,7 +32,8 @@ wanted=$(plain)
 check "progress: a program that isn't asked" [ ! -s "$room/err" ]
 check "progress: the same answer" [ "$(GLOCK_PROGRESS=1 plain)" = "$wanted" ]
 check "progress: the program's numbers" grep -Eqx 'nodes [0-9]+ cost [0-9]+ low [0-9]+' "$room/err"
-check "progress: its numbers alone" [ "$(grep -Evcx 'nodes [0-9]+ cost [0-9]+ low [0-9]+' "$room/err")" = 0 ]
+check "progress: its numbers, and at the end those of the whole search" [ "$(grep -Evx 'nodes [0-9]+ cost [0-9]+ low [0-9]+' "$room/err" | grep -Ecx 'ended nodes [0-9]+ rounds [0-9]+ cuts [0-9]+ first low [0-9]+')" = 1 ]
+check "progress: nothing else" [ "$(grep -Evcx '(nodes [0-9]+ cost [0-9]+ low|ended nodes [0-9]+ rounds [0-9]+ cuts [0-9]+ first low) [0-9]+' "$room/err")" = 0 ]
 
 # --stats says at the end what the search took, and shows nothing before; what is printed stays the same.
 stats() {
@@ -54,10 +55,14 @@ call solve evening.lock --workers 1 --dossier --stats
 check "stats: of a dossier" gives 0 "$wanted" "glock: stats ships       9"
 check "stats: its cuts by names" holds "$err" "glock: stats cut 0       side row cora dina"
 call solve two-chambers.lock --workers 1 --nodes 50 --stats
-check "stats: an open report's numbers are exact" gives 1 "open nodes 50" "workers 1; exact: steps 50 cost "
+check "stats: an open report's numbers are exact" gives 1 "open nodes 50" "workers 1; exact: steps 50 rounds "
+for workers in 1 2 4; do
+  call solve two-chambers.lock --workers $workers --nodes 50 --stats
+  check "stats: all steps of $workers workers" holds "$err" "workers $workers; exact: steps 50 rounds "
+done
 call solve two-chambers.lock --workers 1 --nodes 50 --keep --stats
 check "stats: of an open dossier" gives 1 "certificate open" "glock: stats dossier     open"
-check "stats: no report tells what is exact" lacks "$err" exact
+check "stats: its steps, and no report's cost" grep -Eq 'workers 1; exact: steps 50 rounds [0-9]+ cuts [0-9]+ first low [0-9]+$' "$room/err"
 call solve --stats --seconds 1 --workers 1 long.lock
 check "stats: of an end by the clock" gives 1 "open nodes" "glock: stats seconds "
 check "stats: not of the run that was stopped" lacks "$err" "before the end"

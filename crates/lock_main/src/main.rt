@@ -1,8 +1,9 @@
 //! The program `glock`: the words of its command line, standard input and standard output, and the
 //! status's number as its exit status. All that it does is done by `lock_top::run`; `progress` tells on
-//! standard error how far it is, where the environment asks for that.
+//! standard error how far a search is and how it ended, where the environment asks for that.
 #![tactic(auto)]
 
+mod numbers;
 mod progress;
 
 use crate::progress::ProgressGate;
@@ -37,14 +38,17 @@ fn main(rt: HostRuntime) -> ExitCode {
         Ok(words) => {
             let mut source = StdSource::new(rt.stdin());
             let mut sink = StdSink::new(rt.stdout());
-            run(
+            let gate = ProgressGate::new(&rt);
+            let status = run(
                 &rt,
                 rt.alloc(),
                 words.as_slice(),
                 &mut source,
                 &mut sink,
-                &ProgressGate::new(&rt),
-            )
+                &gate,
+            );
+            gate.end();
+            status
         }
         Err(_) => answer_no_memory(&rt),
     };

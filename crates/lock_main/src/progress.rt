@@ -1,8 +1,7 @@
-//! How far a search is, told on standard error while it runs.
-use arrayvec::ArrayString;
+//! How far a search is, told on standard error while it runs and at its end.
+use crate::numbers::Numbers;
 use gates::{Gate, Point};
 use std::env;
-use std::fmt::Write as _;
 use std::io::Write as _;
 use std::sync::atomic::AtomicU64;
 use std::sync::atomic::Ordering::SeqCst;
@@ -14,9 +13,6 @@ const ASKING: &str = "GLOCK_PROGRESS";
 // Seconds from one line to the next.
 const PERIOD: u64 = 1;
 
-// A cost that no plan has.
-const NO_PLAN: u64 = u64::MAX;
-
 /// A gate that lets all pass at once, and writes a line once a second where that is asked for: nodes taken,
 /// the best cost and a cost below which no plan is, both in minutes. Faults of writing are let go.
 #[derive(Drop)]
@@ -24,14 +20,13 @@ pub(crate) struct ProgressGate<'r> {
     rt: &'r HostRuntime,
     begun: Option<Instant>,
     due: AtomicU64,
-    nodes: AtomicU64,
-    cost: AtomicU64,
-    low: AtomicU64,
+    numbers: Numbers,
 }
 
 impl<'r> ProgressGate<'r> {
     /// A gate that nobody has called. It never writes where the environment doesn't ask for it, or there is
-    /// no clock.
+    /// no clock. Inlined, the room for a variable's name would be on the stack of the whole run.
+    #[inline(never)]
     pub(crate) fn new(rt: &'r HostRuntime) -> ProgressGate<'r> {
         let begun = match env::var(rt, ASKING) {
             Ok(_) => Instant::now(rt).ok(),
@@ -41,25 +36,7 @@ impl<'r> ProgressGate<'r> {
             rt,
             begun,
             due: AtomicU64::new(0),
-            nodes: AtomicU64::new(0),
-            cost: AtomicU64::new(NO_PLAN),
-            low: AtomicU64::new(0),
-        }
-    }
-
-    // Two threads that note at once may leave the worse number, until the next one is noted.
-    fn note(&self, point: Point) {
-        match point {
-            Point::Took(_) => {
-                self.nodes.fetch_add(1, SeqCst);
-            }
-            Point::Ahead(count) => {
-                self.nodes.fetch_add(count as u64, SeqCst);
-            }
-            Point::Used(count) => self.nodes.store(count as u64, SeqCst),
-            Point::Read(cost) if cost < self.cost.load(SeqCst) => self.cost.store(cost, SeqCst),
-            Point::Low(low) if low > self.low.load(SeqCst) => self.low.store(low, SeqCst),
-            _ => {}
+            numbers: Numbers::new(),
         }
     }
 
@@ -76,12 +53,17 @@ impl<'r> ProgressGate<'r> {
         }
     }
 
-    fn write(&self) {
-        let (nodes, cost) = (self.nodes.load(SeqCst), self.cost.load(SeqCst));
-        let low = self.low.load(SeqCst);
-        let mut line = ArrayString::<96>::new();
-        if writeln!(line, "nodes {nodes} cost {cost} low {low}").is_ok() {
-            let _ = self.rt.stderr().write(line.as_str().as_bytes());
+    fn write(&self, line: &str) {
+        let _ = self.rt.stderr().write(line.as_bytes());
+    }
+
+    /// Writes the numbers of the search that has ended, if there was one and the environment asks for it.
+    pub(crate) fn end(&self) {
+        if self.begun.is_some()
+            && self.numbers.have_plan()
+            && let Ok(line) = self.numbers.last_line()
+        {
+            self.write(line.as_str());
         }
     }
 }
@@ -91,9 +73,12 @@ impl Gate for ProgressGate<'_> {
         let Some(begun) = self.begun else {
             return;
         };
-        self.note(point);
-        if self.cost.load(SeqCst) < NO_PLAN && self.is_due(begun) {
-            self.write();
+        self.numbers.note(point);
+        if self.numbers.have_plan()
+            && self.is_due(begun)
+            && let Ok(line) = self.numbers.line()
+        {
+            self.write(line.as_str());
         }
     }
 }

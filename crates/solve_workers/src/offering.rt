@@ -105,7 +105,10 @@ impl<G: Gate> Desk for DriversDesk<'_, G> {
         held: &InHand<'_>,
     ) -> Result<(), NoMemory> {
         self.tell(book, pricing, held);
-        learn_cuts(book, pricing.cuts_mut())
+        learn_cuts(book, pricing.cuts_mut())?;
+        let cuts = pricing.cuts_mut().len() as u64;
+        self.gate.at(DRIVER, Point::Knows(cuts));
+        Ok(())
     }
 
     fn round(

@@ -8,12 +8,13 @@ ghost use Rattle.book_rules.specs.Ends.{EndsWell};
 
 use crate::cut_list::CutList;
 use crate::hardness::{driven, has_small_budget};
+use crate::held::DRIVER;
 use crate::opening::opened;
 use crate::searching::{Lent, worked};
 use crate::settling::settled;
 use book_core::{Book, Case};
 use first_plan::{FirstError, first_plan};
-use gates::Gate;
+use gates::{Gate, Point};
 use lock_model::{Plan, WORKERS};
 use no_memory::NoMemory;
 use std::alloc::Global;
@@ -73,6 +74,12 @@ pub fn solve<R: Threads + Wait + Sync, G: Gate + Sync>(
     solve_from(rt, alloc, case, &*plan, CutList::new(alloc), workers, gate)
 }
 
+// Tells the gate how many nodes were used in all, and the cost of the best plan.
+fn tell_end<G: Gate>(gate: &G, book: &Book) {
+    gate.at(DRIVER, Point::Used(book.used()));
+    gate.at(DRIVER, Point::Read(book.best_cost()));
+}
+
 /// Searches a case from a legal plan and cuts of its chambers and ships, which are posted first, with
 /// 1 to `WORKERS` workers. Each of two or more workers has a thread of its own where one can be made. When
 /// all have ended, the caller drives the search to its end on its own thread; one worker alone is the
@@ -109,5 +116,6 @@ pub fn solve_from<R: Threads + Wait + Sync, G: Gate + Sync>(
     let left = worked_if_small(&lent, first)?;
     let book = settled(alloc, left, case, cost, plan, &cuts)?;
     let book = driven(&lent, book, cost)?;
+    tell_end(gate, &book);
     Ok(Solved { book })
 }
