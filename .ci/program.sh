@@ -53,11 +53,11 @@ examples_are_solved() {
 stack_is_enough() {
   local run=(env -i crates/lock_main/out/lock_main) dossier=out/queue-24.dossier lot answer status
   mkdir -p out && (ulimit -s 256 && "${run[@]}" solve --dossier <examples/queue-24.lock >"$dossier") || return 1
-  answer=$(ulimit -s 80 && "${run[@]}" check <"$dossier") && rm "$dossier" || return 1
+  answer=$(ulimit -s 64 && "${run[@]}" check <"$dossier") && rm "$dossier" || return 1
   [[ $answer = "accepted cost "* ]] || return 1
   lot=$("${run[@]}" lot --number 1 --ships 96 --chambers 2) || return 1
   answer=$(ulimit -s 256 && "${run[@]}" solve --nodes 2000 --workers 8 <<<"$lot") && status=0 || status=$?
   [ $status = 0 ] && [[ $answer = "optimal cost "* ]] || return 1
-  cat examples/evening.lock examples/evening.plan | (ulimit -s 80 && "${run[@]}" judge >/dev/null) &&
-    cat examples/evening.lock examples/evening.plan | (ulimit -s 80 && "${run[@]}" play >/dev/null)
+  cat examples/evening.lock examples/evening.plan | (ulimit -s 64 && "${run[@]}" judge >/dev/null) &&
+    cat examples/evening.lock examples/evening.plan | (ulimit -s 64 && "${run[@]}" play >/dev/null)
 }

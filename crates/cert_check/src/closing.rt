@@ -69,7 +69,9 @@ fn is_probed(claim: &Claim, node: &Node, ship: u8, space: &mut Workspace) -> boo
     is_missing(claim.instance, node, ship) && probe(claim.instance, node, ship) >= claim.cost
 }
 
-// Whether there are prices of this number, and the node reaches the cost by them and the cuts.
+// Whether there are prices of this number, and the node reaches the cost by them and the cuts. Inlined, its copy
+// of them would be on the stack while a sweep goes on.
+#[inline(never)]
 fn is_priced_by(
     claim: &Claim,
     node: &Node,

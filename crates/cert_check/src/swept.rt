@@ -22,7 +22,8 @@ fn ends_swept(claim: &Claim, end: &Option<SweepEnd>) -> Result<bool, NoMemory>
 }
 
 // Whether the cuts of the certificate leave no uncut plan below its cost. The prices of the number
-// help speed alone.
+// help speed alone. Inlined, its copy of them would be on the stack beside those by which a node is closed.
+#[inline(never)]
 fn is_cost_swept(alloc: Global, claim: &Claim, number: usize) -> Result<bool, NoMemory>
     requires { number < length claim.now.prices.now }
     ensures { IfOk result (λ swept. IsTrue swept ↔ HasSweptCost claim.now) }

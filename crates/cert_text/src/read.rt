@@ -30,7 +30,9 @@ fn version_under(form: Form, heading: Heading) -> Option<Version>
 }
 
 /// The value of a JSON text. Answers `Json` exactly where the bytes are not one JSON text that
-/// `serde_json` reads, or else want of memory.
+/// `serde_json` reads, or else want of memory. Inlined, what the parser needs would be on the stack while
+/// the value is read.
+#[inline(never)]
 #[tactic(auto, using(crate::proofs::WrittenLemmas::json_found, crate::proofs::WrittenLemmas::json_none))]
 fn json_of(alloc: Global, bytes: &[u8]) -> Result<Value, DossierError>
     ensures read { IfOk result (λ v. json_of bytes.now ≡ Some (view v)) }

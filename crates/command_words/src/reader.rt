@@ -50,7 +50,8 @@ fn command_of(matches: &ArgMatches<'_>) -> Option<Command>
 /// `words` are those after the program's name. `Ok` gives the one command that the words mean, as
 /// `MeanCommand` of `specs/Meaning.antt` says. `Bad` comes exactly where they mean none, want of memory
 /// aside: they aren't good, or a number is out of its range. Words that aren't good are `Bad` at
-/// once and use no memory.
+/// once and use no memory. Inlined, what reading them needs would be on the stack of the whole run.
+#[inline(never)]
 pub fn read_words(alloc: Global, words: &[String]) -> Result<Command, WordsError>
     ensures ok { IfOk result (λ c. MeanCommand (map string_bytes words.now) c) }
     ensures bad { IsErrOf result WordsError.Bad → AreBad (map string_bytes words.now) }

@@ -47,17 +47,16 @@ fn read_words(format: Format, draft: &mut Draft, line: &[u8]) -> Result<Progress
     read_line(format, draft, words_of(line).as_slice())
 }
 
-/// What stands in the lines from the header up to `end`.
-fn read_body(format: Format, lines: &mut Lines<'_>) -> Result<Draft, Bad>
-    ensures read { IfOk result (λ draft. read_body format lines.old.number no_draft (map words (lines_left lines.old)) ≡ read_rest lines.new.number draft (map words (lines_left lines.new))) }
-    ensures whole { IfOk result IsWholeDraft }
-    ensures bad { IfErr result (λ b. read_body format lines.old.number no_draft (map words (lines_left lines.old)) ≡ Err b) }
+/// Reads the lines from the header up to `end` into the draft.
+fn read_body(format: Format, draft: &mut Draft, lines: &mut Lines<'_>) -> Result<(), Bad>
+    ensures read { OnOk result (read_body format lines.old.number draft.old (map words (lines_left lines.old)) ≡ read_rest lines.new.number draft.new (map words (lines_left lines.new))) }
+    ensures whole { OnOk result (IsWholeDraft draft.new) }
+    ensures bad { IfErr result (λ b. read_body format lines.old.number draft.old (map words (lines_left lines.old)) ≡ Err b) }
 {
-    let mut draft = Draft::new();
     while let Some(line) = lines.next() {
-        match read_words(format, &mut draft, line) {
+        match read_words(format, draft, line) {
             Ok(Progress::More) => {}
-            Ok(Progress::Ended) => return Ok(draft),
+            Ok(Progress::Ended) => return Ok(()),
             Err(kind) => return Err(bad(lines, kind)),
         }
     }
@@ -98,7 +97,8 @@ fn read_text(bytes: &[u8]) -> Result<Instance, Bad>
     check_text(bytes)?;
     let mut lines = Lines::new(bytes);
     let format = read_header(&mut lines)?;
-    let draft = read_body(format, &mut lines)?;
+    let mut draft = Draft::new();
+    read_body(format, &mut draft, &mut lines)?;
     read_rest(&mut lines)?;
     Ok(draft.into_instance())
 }

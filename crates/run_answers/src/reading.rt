@@ -24,7 +24,9 @@ fn too_long(alloc: Global, most: u64) -> Answer
 }
 
 /// All bytes of a source, at most `most`, read to its end; or what is answered where they can't be had:
-/// the source counted a fault, there are more, or memory was wanting.
+/// the source counted a fault, there are more, or memory was wanting. Inlined, its room would be on the
+/// stack of the whole run.
+#[inline(never)]
 pub fn read_source<S: Source>(alloc: Global, src: &mut S, most: u64) -> Result<Vec<u8>, Answer>
     ensures read { IfOk result (λ bytes. IsReadWhole most (drained (S.left src.old) (S.left src.new) (S.faults src.old) (S.faults src.new)) bytes.items) }
     ensures refused { IfErr result (λ answer. IsUnreadable most (drained (S.left src.old) (S.left src.new) (S.faults src.old) (S.faults src.new)) answer.status (bytes_in answer.text)) }
