@@ -20,4 +20,5 @@ mod rising;
 
 pub use beat::{Act, Beat};
 pub use day::{BEATS, Day};
+pub use order::moor_order;
 pub use playing::{Played, play};

@@ -90,7 +90,7 @@ module _ (I : Instance) (P : Plan) (dial : Dial) where
       (rows I axis ps) (filled (codes "<tr class=\"f\"><th scope=\"row\">total</th><td colspan=\"6\"></td><td class=\"r\">") [])
       (decimal (cost_of I P)) (filled (codes "</td></tr>\n</tbody>\n</table>\n") [])
       (filled (codes "</div>\n") []) (legend I axis)
-      (filled (codes "<h2>deck plan") []) (plural (length ps)) (filled (codes "</h2>\n<div class=\"cards\">\n") [])
+      (filled (codes "<h2>deck plan") []) (plural (length ps)) (filled (codes "</h2>\n<p class=\"sub\">Each deck numbers its ships in the order in which they come in.</p>\n<div class=\"cards\">\n") [])
       (cards I P dial.clock ps) (filled (codes "</div>\n</main>\n</body>\n</html>\n") [])
       refl lanes-written (all-rows-written I P axis) (all-cards-written I P dial.clock)
 

@@ -1,10 +1,14 @@
 -- What passages name is in the instance and in the plan.
 use Rattle.std.proofs.Common.{ℕ, ◌≡◌, ◌+◌, ◌<◌, List, [], ◌∷◌, ◌++◌, ◌∙◌, ap, sym, subst, length, All, Bool, true, false, cond, refl}
+use Rattle.std.proofs.lemmas.List.{length-map}
 use Rattle.std.proofs.lemmas.List.Elements.{All-nil, All-cons, All-head, All-tail, All-get_or}
 use Rattle.lock_model.specs.declared.instance.Instance.{Instance}
 use Rattle.lock_model.specs.declared.plan.Plan.{Plan}
+use Rattle.lock_model.specs.Fitting.{size_of}
+use Rattle.lock_model.specs.Fleet.{ship_at}
 use Rattle.lock_rules.specs.Lines.{lockage_at, no_lockage}
 use Rattle.lock_rules.specs.Plan.{IsLegal, IsLegalLockage}
+use Rattle.day_play.specs.Lawful.{IsWholeLockage}
 use Rattle.day_play.specs.declared.beat.Beat.{Beat}
 use Rattle.picture_page.specs.declared.passage.Passage.{Passage}
 use Rattle.picture_page.specs.Passages.{is_go, passage_in, passages_from, IsKnownGo}
@@ -13,6 +17,12 @@ use Rattle.picture_page.specs.KnownPassages.{HasChamber, HasShips, IsKnown, AreK
 module _ (I : Instance) (P : Plan) (legal : IsLegal I P) (day : List Beat) where
   own : (place : ℕ) → place < length P.lockages → IsLegalLockage I (lockage_at P place)
   own place within = All-get_or (IsLegalLockage I) P.lockages place no_lockage within legal.lockage
+
+  whole : (place : ℕ) → place < length P.lockages → IsWholeLockage I (lockage_at P place)
+  whole place within =
+      let l = lockage_at P place in
+      let legal = own place within in
+      record { chamber = legal.chamber; ships = legal.known; spots = legal.placed.count ∙ length-map l.ships (λ s. size_of (ship_at I s)) }
 
   -- what holds of the passage of each lockage of the plan holds of all passages
   all : (Q : Passage → Type 0) → ((number place : ℕ) → place < length P.lockages → Q (passage_in I day number place (lockage_at P place)))
@@ -32,7 +42,7 @@ module _ (I : Instance) (P : Plan) (legal : IsLegal I P) (day : List Beat) where
   known-passages number bs known = record {
     chambers = all (HasChamber I) (λ n place within. record { chamber = (own place within).chamber }) number bs known;
     ships = all (HasShips I) (λ n place within. record { ships = (own place within).known }) number bs known;
-    known = all (IsKnown I P) (λ n place within. record { chamber = (own place within).chamber; place = within; ships = (own place within).known }) number bs known;
+    known = all (IsKnown I P) (λ n place within. record { chamber = (own place within).chamber; place = within; whole = whole place within }) number bs known;
   }
 
   -- so it is of passages that were appended to none

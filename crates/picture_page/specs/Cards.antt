@@ -9,6 +9,7 @@ use Rattle.lock_model.specs.declared.plan.Plan.{Plan}
 use Rattle.lock_model.specs.declared.ship.Ship.{Ship}
 use Rattle.lock_rules.specs.Lines.{lockage_at}
 use Rattle.instance_text.specs.Canonical.{way_word}
+use Rattle.day_play.specs.Playing.{moor_order}
 use Rattle.plan_print.specs.Words.{letter}
 use Rattle.picture_page.specs.Forms.{filled}
 use Rattle.picture_page.specs.Shapes.{arrow, cargo_mark}
@@ -67,20 +68,26 @@ deck_picture scale I l c =
     waters scale c ++ hulls scale I l ++ ties scale I l ++ writing scale I l ++ feet c (drawn scale c.length) (height_of (drawn scale c.width) - 14)
     ++ filled (codes "</svg>\n") []
 
--- the letter, the name and the size of the ship at place k
-unfoldable pub list_ship : Ship → ℕ → List ℕ
-list_ship s k =
-    filled (codes "<tr><td>") [] ++ letter k ∷ [] ++ filled (codes "</td><td>") [] ++ s.name ++ cargo_mark s.cargo
+-- which to come in, the letter, the name and the size of the ship at place k
+unfoldable pub list_ship : ℕ → Ship → ℕ → List ℕ
+list_ship entry s k =
+    filled (codes "<tr><td>%</td><td>") (entry ∷ []) ++ letter k ∷ [] ++ filled (codes "</td><td>") [] ++ s.name ++ cargo_mark s.cargo
     ++ filled (codes "</td><td class=\"v\">") [] ++ measures s.length s.width ++ filled (codes "</td>") []
 
 -- and how and where it lies
-unfoldable pub list_row : Instance → Lockage → ℕ → List ℕ
-list_row I l k =
-    list_ship (ship_of I l k) k ++ filled (codes "<td>") [] ++ berth_text I l k ++ filled (codes "</td><td class=\"v\">") [] ++ metres (spot_of l k).x
+unfoldable pub list_row : Instance → Lockage → ℕ → ℕ → List ℕ
+list_row I l entry k =
+    list_ship entry (ship_of I l k) k ++ filled (codes "<td>") [] ++ berth_text I l k ++ filled (codes "</td><td class=\"v\">") [] ++ metres (spot_of l k).x
     ++ filled (codes " m<span class=\"fl\"> from low</span></td></tr>") []
 
+-- the rows of the ships at these places, numbered from `entry` on
+abbrev pub rows_from : Instance → Lockage → ℕ → List ℕ → List ℕ
+rows_from I l entry [] = []
+rows_from I l entry (k ∷ ks) = list_row I l entry k ++ rows_from I l (entry + 1) ks
+
+-- THE SHIPS OF A LOCKAGE, numbered in the order in which they come in
 unfoldable pub list_rows : Instance → Lockage → List ℕ
-list_rows I l = flat_map (list_row I l) (range_with_len 0 (length l.ships))
+list_rows I l = rows_from I l 1 (moor_order I l)
 
 -- the card of a passage in a chamber that is drawn at a scale
 unfoldable pub card : DeckScale → Instance → Clock → Lockage → Chamber → Passage → List ℕ

@@ -108,7 +108,7 @@ timetable I axis ps cost =
 -- the decks, and the end of the page
 unfoldable pub decks : Instance → Plan → Clock → List Passage → List ℕ
 decks I P clock ps =
-    filled (codes "<h2>deck plan") [] ++ plural (length ps) ++ filled (codes "</h2>\n<div class=\"cards\">\n") [] ++ cards I P clock ps
+    filled (codes "<h2>deck plan") [] ++ plural (length ps) ++ filled (codes "</h2>\n<p class=\"sub\">Each deck numbers its ships in the order in which they come in.</p>\n<div class=\"cards\">\n") [] ++ cards I P clock ps
     ++ filled (codes "</div>\n</main>\n</body>\n</html>\n") []
 
 -- a page on an axis

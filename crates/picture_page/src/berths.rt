@@ -1,15 +1,16 @@
 //! Which ship lies at a place of a lockage, and how it is moored.
-ghost use Rattle.std.specs.Prelude.{◌≡◌, ◌<◌, ◌++◌, length, All, OnOk, slice_index_or};
+ghost use Rattle.std.specs.Prelude.{◌≡◌, ◌≤◌, ◌<◌, ◌++◌, length, All, OnOk, slice_index_or};
 ghost use Rattle.picture_page.specs.Berths.{ship_of, spot_of, moor_text, berth_text};
 
-use lock_model::{Instance, Lockage, Moor, Ship, Spot};
+use lock_model::{Instance, Lockage, MOST, Moor, Ship, Spot};
 use no_memory::NoMemory;
 use plain_text::put;
 use plan_print::rank_word;
 
 /// The number of the ship at a place, or 0 where the lockage has none there.
 fn number_at(lockage: &Lockage, place: u8) -> u8
-    ensures { result ≡ slice_index_or lockage.now.ships place 0 }
+    ensures value { result ≡ slice_index_or lockage.now.ships place 0 }
+    ensures few { length lockage.now.ships ≤ MOST }
 {
     let ships = lockage.ships.as_slice();
     if (place as usize) < ships.len() {
@@ -23,7 +24,8 @@ fn number_at(lockage: &Lockage, place: u8) -> u8
 #[tactic(auto, using(crate::proofs::BerthLemmas::of_berths))]
 pub(crate) fn ship_of<'a>(instance: &'a Instance, lockage: &Lockage, place: u8) -> &'a Ship
     requires { All (λ s. s < length instance.now.ships) lockage.now.ships }
-    ensures { result.now ≡ ship_of instance.now lockage.now place }
+    ensures value { result.now ≡ ship_of instance.now lockage.now place }
+    ensures few { length lockage.now.ships ≤ MOST }
 {
     &instance.ships.as_slice()[number_at(lockage, place) as usize]
 }

@@ -1,9 +1,10 @@
 //! The cards.
-ghost use Rattle.std.specs.Prelude.{◌≡◌, ◌≤◌, ◌<◌, ◌++◌, length, All, OnOk};
+ghost use Rattle.std.specs.Prelude.{◌≡◌, ◌+◌, ◌≤◌, ◌<◌, ◌++◌, length, All, OnOk};
+ghost use Rattle.day_play.specs.Lawful.{IsWholeLockage};
 ghost use Rattle.picture_page.specs.KnownPassages.{IsKnown};
 ghost use Rattle.picture_page.specs.Scales.{deck_scale};
 ghost use Rattle.picture_page.specs.Cards.{head_words, head_times, card_head, parting, title_ship, title_ships, height_of, card_title};
-ghost use Rattle.picture_page.specs.Cards.{deck_picture, list_ship, list_row, list_rows, card, card_of, cards};
+ghost use Rattle.picture_page.specs.Cards.{deck_picture, list_ship, list_row, rows_from, list_rows, card, card_of, cards};
 
 use crate::berths::{put_berth, ship_of, spot_of};
 use crate::form::{put_between, put_form};
@@ -16,6 +17,7 @@ use crate::times::{Clock, put_time};
 use crate::waters::{drawn, put_feet, put_waters};
 use crate::words::{put_measures, put_metres};
 use crate::writing::put_writing;
+use day_play::moor_order;
 use instance_text::way_word;
 use lock_model::{Chamber, Instance, Lockage, MOST, Plan, Ship};
 use no_memory::NoMemory;
@@ -155,13 +157,15 @@ fn put_deck_picture(
     put_form(out, b"</svg>\n", &[])
 }
 
-/// Appends the letter, the name and the size of the ship at a place.
+/// Appends which to come in, the letter, the name and the size of the ship at a place.
 #[tactic(auto, unfolding(crate::specs::Cards::list_ship))]
-fn put_list_ship(out: &mut Vec<u8>, ship: &Ship, place: u8) -> Result<(), NoMemory>
+fn put_list_ship(out: &mut Vec<u8>, entry: u8, ship: &Ship, place: u8) -> Result<(), NoMemory>
     requires { place < MOST }
-    ensures { OnOk result (out.new.items ≡ out.old.items ++ list_ship ship.now place) }
+    ensures { OnOk result (out.new.items ≡ out.old.items ++ list_ship entry ship.now place) }
 {
-    put_between(out, b"<tr><td>", &[b'A' + place], b"</td><td>")?;
+    put_form(out, b"<tr><td>%</td><td>", &[entry as u64])?;
+    put(out, &[b'A' + place])?;
+    put_form(out, b"</td><td>", &[])?;
     put(out, ship.name.as_slice())?;
     put_cargo(out, ship.cargo)?;
     put_form(out, b"</td><td class=\"v\">", &[])?;
@@ -169,19 +173,20 @@ fn put_list_ship(out: &mut Vec<u8>, ship: &Ship, place: u8) -> Result<(), NoMemo
     put_form(out, b"</td>", &[])
 }
 
-/// Appends the row of the ship at a place of a lockage.
+/// Appends the row of the ship at a place of a lockage, the so many-th to come in.
 #[tactic(auto, unfolding(crate::specs::Cards::list_row))]
 fn put_list_row(
     out: &mut Vec<u8>,
     instance: &Instance,
     lockage: &Lockage,
+    entry: u8,
     place: u8,
 ) -> Result<(), NoMemory>
     requires known { All (λ s. s < length instance.now.ships) lockage.now.ships }
-    requires place_small { place < MOST }
-    ensures { OnOk result (out.new.items ≡ out.old.items ++ list_row instance.now lockage.now place) }
+    requires within { place < length lockage.now.ships }
+    ensures { OnOk result (out.new.items ≡ out.old.items ++ list_row instance.now lockage.now entry place) }
 {
-    put_list_ship(out, ship_of(instance, lockage, place), place)?;
+    put_list_ship(out, entry, ship_of(instance, lockage, place), place)?;
     put_form(out, b"<td>", &[])?;
     put_berth(out, instance, lockage, place)?;
     put_form(out, b"</td><td class=\"v\">", &[])?;
@@ -189,17 +194,36 @@ fn put_list_row(
     put_form(out, b" m<span class=\"fl\"> from low</span></td></tr>", &[])
 }
 
-/// Appends the rows of the ships of a lockage.
-#[tactic(auto, unfolding(crate::specs::Cards::list_rows), using(plan_print::proofs::TextLemmas::flat_map_range_more))]
+/// Appends the rows of the ships at these places of a lockage, numbered from a number on.
+fn put_rows_from(
+    out: &mut Vec<u8>,
+    instance: &Instance,
+    lockage: &Lockage,
+    entry: u8,
+    places: &[u8],
+) -> Result<(), NoMemory>
+    requires known { All (λ s. s < length instance.now.ships) lockage.now.ships }
+    requires within { All (λ k. k < length lockage.now.ships) places.now }
+    requires few { entry + length places.now ≤ MOST + 1 }
+    ensures { OnOk result (out.new.items ≡ out.old.items ++ rows_from instance.now lockage.now entry places.now) }
+{
+    match places {
+        [] => Ok(()),
+        [place, rest @ ..] => {
+            put_list_row(out, instance, lockage, entry, *place)?;
+            put_rows_from(out, instance, lockage, entry + 1, rest)
+        }
+    }
+}
+
+/// Appends the rows of the ships of a lockage, numbered in the order in which they come in.
+#[tactic(auto, unfolding(crate::specs::Cards::list_rows))]
 fn put_list_rows(out: &mut Vec<u8>, instance: &Instance, lockage: &Lockage) -> Result<(), NoMemory>
-    requires { All (λ s. s < length instance.now.ships) lockage.now.ships }
+    requires { IsWholeLockage instance.now lockage.now }
     ensures { OnOk result (out.new.items ≡ out.old.items ++ list_rows instance.now lockage.now) }
 {
-    let count = lockage.ships.len() as u8;
-    for place in 0..count {
-        put_list_row(out, instance, lockage, place)?;
-    }
-    Ok(())
+    let order = moor_order(instance, lockage);
+    put_rows_from(out, instance, lockage, 1, order.as_slice())
 }
 
 /// Appends the card of a passage: a lockage in a chamber of the instance.
@@ -212,7 +236,7 @@ fn put_card(
     chamber: &Chamber,
     passage: &Passage,
 ) -> Result<(), NoMemory>
-    requires { All (λ s. s < length instance.now.ships) lockage.now.ships }
+    requires { IsWholeLockage instance.now lockage.now }
     ensures { OnOk result (out.new.items ≡ out.old.items ++ card (deck_scale instance.now.chambers chamber.now) instance.now clock lockage.now chamber.now passage.now) }
 {
     let scale = deck_scale(instance.chambers.as_slice(), chamber);

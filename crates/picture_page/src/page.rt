@@ -64,7 +64,11 @@ fn put_decks(
 {
     put_form(out, b"<h2>deck plan", &[])?;
     put_plural(out, passages.len() as u64)?;
-    put_form(out, b"</h2>\n<div class=\"cards\">\n", &[])?;
+    put_form(
+        out,
+        b"</h2>\n<p class=\"sub\">Each deck numbers its ships in the order in which they come in.</p>\n<div class=\"cards\">\n",
+        &[],
+    )?;
     put_cards(out, instance, plan, clock, passages)?;
     put_form(out, b"</div>\n</main>\n</body>\n</html>\n", &[])
 }

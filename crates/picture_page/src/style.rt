@@ -14,7 +14,7 @@ body{margin:0;background:var(--bg);color:var(--ink);font:14px/1.35 \"Helvetica N
 main{max-width:1300px;margin:0 auto;padding:20px 16px 32px}\n\
 a{color:inherit}\n\
 h1{font-size:24px;line-height:1.2;margin:0 0 4px;font-weight:700;overflow-wrap:anywhere}\n\
-h2{font-size:16px;margin:26px 0 10px;font-weight:700}\n\
+h2{font-size:16px;margin:26px 0 10px;font-weight:700}h2+.sub{margin:-6px 0 10px}\n\
 .sub{margin:0 0 4px;color:var(--soft)}\n\
 table.t{border-collapse:collapse;table-layout:fixed;width:100%;margin:10px 0 8px}\n\
 .t th,.t td{padding:0;text-align:left;vertical-align:middle;border-bottom:1px solid var(--line);font-weight:400;overflow-wrap:anywhere}\n\
@@ -65,7 +65,7 @@ main:not(:has(.t .b0)) li:has([href=\"#u\"]),main:not(:has(.t .b1)) li:has([href
 .card svg.d{display:block;width:100%;max-width:540px;height:auto;margin-top:18px;overflow:visible}\n\
 .card table{border-collapse:collapse;width:100%;font-size:12px;margin-top:3px}\n\
 .card td{padding:1px 8px 1px 0;vertical-align:top;overflow-wrap:anywhere}\n\
-.card td:first-child{font-weight:700;width:18px}.card td:nth-child(2){width:32%}.card td:nth-child(3){width:24%}.card td:nth-child(4){padding-left:14px}\n\
+.card td:first-child{width:20px}.card td:nth-child(2){font-weight:700;width:18px}.card td:nth-child(3){width:31%}.card td:nth-child(4){width:23%}.card td:nth-child(5){padding-left:14px}\n\
 .card td.v{text-align:right;font-variant-numeric:tabular-nums;white-space:nowrap}\n\
 .card td:last-child{padding-right:0}\n\
 .qy{fill:var(--quay)}.wt{fill:var(--water);stroke:none}.ed{stroke:var(--mid);stroke-width:4;stroke-dasharray:8 12}\n\
@@ -74,13 +74,13 @@ main:not(:has(.t .b0)) li:has([href=\"#u\"]),main:not(:has(.t .b1)) li:has([href
 .ti{stroke:var(--ink);stroke-width:10}.bo{fill:var(--ink)}\n\
 .d text{font-size:44px}.d .sm{font-size:36px}.d .ft{font-size:40px}.d .mo{font-family:\"DejaVu Sans Mono\",\"Liberation Mono\",Menlo,Consolas,monospace;white-space:pre}\n\
 .d .bd{font-weight:700}.d .en{text-anchor:end}.d .mi{text-anchor:middle}.d .gy{fill:var(--soft)}\n\
-@media print,(min-width:580px){.card:has(tr:only-child){grid-column:span 1}.card:has(tr:only-child) :is(.mo,.qn,.mi,.fl,.d use,td:first-child){display:none}.card:has(tr:only-child) td{width:auto}.card:has(tr:only-child) .ft{font-size:84px}.card:has(tr:only-child) svg.d{margin-top:0}}\n\
+@media print,(min-width:580px){.card:has(tr:only-child){grid-column:span 1}.card:has(tr:only-child) :is(.mo,.qn,.mi,.fl,.d use,td:nth-child(-n+2)){display:none}.card:has(tr:only-child) td{width:auto}.card:has(tr:only-child) .ft{font-size:84px;transform:translateY(16px)}.card:has(tr:only-child) svg.d{margin-top:0}}\n\
 @media (max-width:579px){.cards{grid-template-columns:100%}.card{grid-column:auto}.fl,.d .nm,.d .ft.mi{display:none}.d .bd{font-size:60px}.d .sm .bd{font-size:48px}.d .ft{font-size:56px}}\n\
-@media screen and (max-width:1179px){main{max-width:912px}table.t,.t thead,.t tbody{display:block}.t tr{display:grid;grid-template-columns:minmax(104px,1fr) 56px 44px 56px 56px minmax(104px,4fr) 60px;border-bottom:1px solid var(--line)}.t thead tr{border-color:var(--mid)}.t th,.t td,.t thead th,.t thead td{border:0;width:auto!important}.t .ax{grid-column:1/-1;grid-row:2;padding-top:1px}.t .r{grid-column:-2;grid-row:1}.t:first-child th:first-child{grid-column:1/-2}.t .c b,.t .c small{display:inline;margin-right:10px}.t .f{border:0}.t .f td:empty{display:none}.t .f th{grid-column:1/-2}}\n\
+@media screen and (max-width:1179px){main{max-width:912px}table.t,.t thead,.t tbody{display:block}.t tr{display:grid;grid-template-columns:minmax(104px,1fr) 56px 44px 56px 56px minmax(104px,4fr) 60px;border-bottom:1px solid var(--line)}.t thead tr{border-color:var(--mid)}.t th,.t td,.t thead th,.t thead td{border:0;width:auto!important}.t .ax{grid-column:1/-1;grid-row:2;padding-top:3px}.t .r{grid-column:-2;grid-row:1}.t:first-child th:first-child{grid-column:1/-2}.t .c b,.t .c small{display:inline;margin-right:10px}.t .f{border:0}.t .f td:empty{display:none}.t .f th{grid-column:1/-2}}\n\
 @media screen and (max-width:699px){.t+.t .ax{display:none}.t .s tr{padding:2px 0}.t:first-child{overflow-x:auto}.t:first-child tr{min-width:660px}}\n\
 @media screen and (max-width:579px){main{padding:14px 10px 24px}h1{font-size:20px}.t+.t tr{grid-template-columns:repeat(4,1fr) 60px}.t+.t :is(th:first-child,td:nth-child(6),th:nth-child(6)){grid-column:span 2;grid-row:1}.t+.t .f th{grid-column:span 4}.t .v{text-align:left}}\n\
 @page{size:A4 landscape;margin:8mm}\n\
-@media print{main{padding:0;max-width:none;width:1050px}h1{font-size:20px;margin:0}.t tr,.legend{break-inside:avoid}.t tr:last-child,.t thead{break-after:avoid}.legend{break-before:avoid}h2{break-after:avoid;margin-top:16px}body{-webkit-print-color-adjust:exact;print-color-adjust:exact}.t th{width:46px}.t th:first-child{width:112px}.t th:nth-child(3){width:38px}.t th:nth-child(6){width:76px}.t th.r{width:60px}.t:first-child th:first-child{width:364px}a{text-decoration:none}.cards{grid-template-columns:repeat(4,1fr);gap:10px}}\n\
+@media print{main{padding:0;max-width:none;width:1050px}h1{font-size:20px;margin:0}.t tr,.legend{break-inside:avoid}.t tr:last-child,.t thead{break-after:avoid}.legend{break-before:avoid}h2,h2+.sub{break-after:avoid}h2{margin-top:16px}body{-webkit-print-color-adjust:exact;print-color-adjust:exact}.t th{width:46px}.t th:first-child{width:112px}.t th:nth-child(3){width:38px}.t th:nth-child(6){width:76px}.t th.r{width:60px}.t:first-child th:first-child{width:364px}a{text-decoration:none}.cards{grid-template-columns:repeat(4,1fr);gap:10px}}\n\
 ";
 
 /// Appends the style sheet.

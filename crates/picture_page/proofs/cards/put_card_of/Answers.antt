@@ -1,7 +1,7 @@
-use Rattle.std.proofs.Common.{◌≡◌, ◌<◌, ◌∙◌, All, length, ap, get_or, subst, sym}
+use Rattle.std.proofs.Common.{◌≡◌, ◌∙◌, ap, get_or, subst, sym}
 use Rattle.std.proofs.lemmas.List.{get_or_default}
-use Rattle.lock_model.specs.declared.plan.Lockage.{Lockage}
 use Rattle.lock_rules.specs.Lines.{lockage_at}
+use Rattle.day_play.specs.Lawful.{IsWholeLockage}
 use Rattle.picture_page.proofs.cards.put_card_of.Goals as goal
 
 pub put_card-requires : goal.put_card-requires
@@ -11,4 +11,4 @@ put_card-requires c =
     let own = c.index-lockages-place.result in
     let same : own ≡ lockage_at P place =
     c.index-lockages-place.is ∙ ap (λ ls. get_or ls place own) c.as_slice-lockages.ensures.value ∙ get_or_default P.lockages place own _ c.requires.place in
-    subst (λ (l : Lockage). All (λ s. s < length c.args.instance.now.ships) l.ships) (sym same) c.requires.ships
+    subst (IsWholeLockage c.args.instance.now) (sym same) c.requires.whole

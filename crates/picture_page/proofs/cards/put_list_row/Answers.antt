@@ -13,6 +13,6 @@ returns c =
       c.in_ok-put_berth.ensures,
       c.in_ok-put_form.ensures,
       c.in_ok-put_list_ship.ensures,
-      c.ship_of.ensures,
+      c.ship_of.ensures.value,
       c.spot_of.ensures,
     ) (simp append_assoc))

@@ -15,5 +15,5 @@ returns c =
       c.in_ok-put_between.ensures,
       c.hull_of.ensures,
       c.as_slice.ensures.value,
-      c.ship_of-ship.ensures,
+      c.ship_of-ship.ensures.value,
     ) (simp append_assoc))
