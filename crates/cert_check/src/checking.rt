@@ -162,7 +162,7 @@ fn low_or_failure(
 /// legal and costs as much, and every legal plan costs at least the low. Where it leaves no node open as
 /// well, it is accepted: the low is the cost, and no legal plan costs less. `Rejected` exactly with the
 /// first place and reason at which it fails. Places are numbered from 0. Refuses want of memory alone; a
-/// sweep that takes more than 4,000,000 labels, or 200,000 groups at once, counts as that.
+/// sweep that takes more than 4,000,000 labels, or 600,000 groups at once, counts as that.
 pub fn check(
     alloc: Global,
     instance: &Instance,

@@ -8,7 +8,7 @@ use sweep::SweepLimits;
 const LABELS: usize = 4_000_000;
 
 // The most groups of one chamber and way that a sweep grows at once: as many as in a search.
-const GROUPS: usize = 200_000;
+const GROUPS: usize = 600_000;
 
 // What a price mark may take: memory ends before a node has so many groups or takes so many turns.
 pub(crate) const PRICE_ROOM: Limits = Limits {

@@ -20,7 +20,7 @@ use sweep::{SweepAsked, SweepLimits, SweepOutcome, sweep};
 // The most rounds in a search.
 const MOST_ROUNDS: u32 = 10_000;
 // The most rounds that are tried at a node; the pricing ends them before.
-pub(crate) const MOST_AT_A_NODE: u32 = 2_000;
+pub(crate) const MOST_AT_A_NODE: u32 = 4_000;
 /// The most labels for one cost of a sweep, which take some 260 bytes each while it lasts.
 pub(crate) const MOST_LABELS_AT_ONCE: u64 = 650_000;
 /// The most labels for one cost while a further ascent may still bring the goal nearer.
@@ -28,6 +28,9 @@ pub(crate) const FEW_LABELS_AT_ONCE: u64 = 30_000;
 // So many times the most labels for one cost all costs of a sweep may take: each takes some times as many as the
 // one before.
 const COSTS_OF_A_SWEEP: u64 = 4;
+// The most groups of a chamber and way that a sweep of many ships grows at once: where chambers take six ships at
+// a time, costs far above what prices reach ask for so many.
+const MOST_SWEPT_GROUPS: usize = 600_000;
 // The most ascents at the root after its first one, each with more triples.
 const MORE_ASCENTS: u32 = 3;
 // With fewer missing ships a node is searched faster than prices are worked out.
@@ -78,6 +81,17 @@ const MORE_PACE: Pace = Pace {
     from_best: 0,
 };
 
+// Where few labels don't close the root and no triples are found, the first ascent mostly ended too soon: steps
+// that turn slowly come near the best prices.
+const SLOW_PACE: Pace = Pace {
+    steps: 800,
+    kept: 9,
+    patience: 30,
+    span: 80,
+    spans: 40,
+    from_best: 0,
+};
+
 const PACE: Pace = Pace {
     steps: 40,
     kept: 3,
@@ -117,6 +131,14 @@ impl FirstNode {
         }
     }
 
+    // How many groups of a chamber and way a sweep may grow at once.
+    fn swept_groups(self) -> usize {
+        match self {
+            FirstNode::Long | FirstNode::Steady => LIMITS.groups,
+            FirstNode::Lasting => MOST_SWEPT_GROUPS,
+        }
+    }
+
     // How many ascents with triples may follow the first one at the root. Where chambers take two ships at a
     // time, a third one gains little; a table of many ships takes too long.
     fn more_ascents(self) -> u32 {
@@ -124,6 +146,14 @@ impl FirstNode {
             FirstNode::Long => MORE_ASCENTS,
             FirstNode::Steady => MORE_ASCENTS - 1,
             FirstNode::Lasting => 0,
+        }
+    }
+
+    // Whether the best cost may be swept without lower ones before it.
+    fn may_jump(self) -> bool {
+        match self {
+            FirstNode::Long | FirstNode::Steady => true,
+            FirstNode::Lasting => false,
         }
     }
 }
@@ -160,6 +190,7 @@ pub struct Pricing {
     pub(crate) ascents: u32,
     pub(crate) left: u32,
     pub(crate) may_seed: bool,
+    pub(crate) may_slow: bool,
     pub(crate) labels: u64,
     pub(crate) is_first: bool,
     pub(crate) from: u8,
@@ -186,6 +217,7 @@ impl Pricing {
             ascents: first.more_ascents(),
             left: MOST_ROUNDS,
             may_seed: true,
+            may_slow: true,
             labels,
             is_first: true,
             from: 0,
@@ -282,11 +314,22 @@ impl Pricing {
         self.ascents > 0
     }
 
-    /// Begins a further ascent at the root, from its best prices and with more triples; whether there are
-    /// any. A plan is made in each of its rounds.
+    // Begins an ascent by slow steps from the best prices, once.
+    fn ascend_slowly(&mut self) -> bool {
+        let may = self.may_slow;
+        self.may_slow = false;
+        if may {
+            let best = self.ascent.best().copy();
+            self.ascent.restart(&best, SLOW_PACE);
+        }
+        may
+    }
+
+    /// Begins a further ascent at the root, from its best prices: with more triples, or by slow steps once where
+    /// there are none; whether there is one. A plan is made in each of its rounds.
     pub(crate) fn ascend_again(&mut self) -> bool {
         self.ascents = self.ascents.saturating_sub(1);
-        self.ascent.widen(MORE_PACE)
+        self.ascent.widen(MORE_PACE) || self.ascend_slowly()
     }
 
     /// The same, as it is to go on below the node in hand, with all rounds to be made still.
@@ -300,6 +343,7 @@ impl Pricing {
             ascents: 0,
             left: MOST_ROUNDS,
             may_seed: false,
+            may_slow: false,
             labels: self.labels,
             is_first: self.is_first,
             from: self.from,
@@ -350,9 +394,23 @@ impl Pricing {
         }
     }
 
+    // How many labels all costs of a sweep may take: some times as many as one of them. Where the best cost may
+    // be swept at once in the end, as many as that takes are left.
+    fn labels_for(&self, goals: &Goals) -> u64 {
+        self.labels
+            .saturating_sub(goals.spared())
+            .min(goals.labels.saturating_mul(COSTS_OF_A_SWEEP))
+    }
+
+    /// Whether the best cost may be swept at once where labels run out on the way to it: of many ships that takes
+    /// too long.
+    pub(crate) fn may_jump(&self) -> bool {
+        self.first.may_jump()
+    }
+
     /// Sweeps the best cost by these prices and the book's first cuts, with no more labels for a cost than so many,
     /// and for all costs than some times that and those that are left. None where that takes more than
-    /// `LIMITS`, or for want of memory; then the labels that it might have made are spent.
+    /// limits, or for want of memory; then the labels that it might have made are spent.
     pub(crate) fn sweep<'a>(
         &'a mut self,
         alloc: Global,
@@ -360,21 +418,19 @@ impl Pricing {
         prices: &'a Prices,
         goals: &Goals,
     ) -> Option<SweepOutcome<'a>> {
-        let all = self
-            .labels
-            .min(goals.labels.saturating_mul(COSTS_OF_A_SWEEP));
+        let all = self.labels_for(goals);
         let asked = SweepAsked {
             instance,
             cuts: self.cuts.as_slice(),
             prices,
-            low: goals.low,
-            first: goals.reached,
+            low: goals.lowest(),
+            first: goals.first(),
             goal: goals.best,
         };
         let limits = SweepLimits {
             labels: goals.labels as usize,
             all,
-            groups: LIMITS.groups,
+            groups: self.first.swept_groups(),
             turns: LIMITS.turns,
         };
         match sweep(alloc, &asked, limits) {

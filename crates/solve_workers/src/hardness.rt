@@ -46,9 +46,9 @@ const FEW_AT_A_TIME: u8 = 2;
 // instance, whose tree is closed by nothing else, gets its share from a smaller budget.
 const LABELS_A_NODE: u64 = 100;
 
-const LABELS_A_NODE_OF_LARGE: u64 = 1_000;
+const LABELS_A_NODE_OF_LARGE: u64 = 2_000;
 
-const MOST_LABELS: u64 = 2_000_000;
+const MOST_LABELS: u64 = 2_650_000;
 
 /// Whether the budget of a case is searched without prices to its end.
 pub(crate) fn has_small_budget(case: &Case) -> bool {
