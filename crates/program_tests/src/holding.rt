@@ -1,4 +1,4 @@
-//! Gates with one worker, and with a third. That two meet, and what the held one hears, stands in
+//! Gates with one worker, and one that finds cuts for another. That two meet, and what the held one hears, stands in
 //! `runs`.
 
 use gates::{CutGate, Gate, LastGate, MeetGate, OpenGate, Point, Stage};
@@ -27,28 +27,6 @@ fn one_worker_is_let_go_and_meets_nobody(rt: HostRuntime) {
         assert!(rt; !last.freed());
         assert!(rt; last.heard() == None);
     }
-}
-
-// What a worker does that takes a node, works on it and is done.
-fn works<G: Gate>(gate: &G, worker: u8) {
-    gate.at(worker, Point::Took(0));
-    gate.at(worker, Point::Took(1));
-    gate.at(worker, Point::Read(210));
-    gate.at(worker, Point::Read(270));
-    gate.at(worker, Point::Closed);
-    gate.at(worker, Point::Idle);
-}
-
-#[test]
-fn any_worker_that_followed_frees_the_held_one(rt: HostRuntime) {
-    let last = LastGate::new(Stage::Taking, 10_000_000);
-    let two = || {
-        last.at(1, Point::Took(1));
-        last.at(2, Point::Took(1));
-        last.at(2, Point::Idle);
-    };
-    join(&rt, || works(&last, 0), two);
-    assert!(rt; last.freed());
 }
 
 // What a worker does that prices a node below the root, and knows so many cuts in each round.

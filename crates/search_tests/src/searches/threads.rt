@@ -5,8 +5,8 @@ use book_core::Case;
 use gates::{Gate, LastGate, Point, Stage};
 use instance_text::read_instance;
 use solve_workers::solve;
+use std::sync::atomic::AtomicU64;
 use std::sync::atomic::Ordering::SeqCst;
-use std::sync::atomic::{AtomicBool, AtomicU64};
 use std::test::Fail;
 
 // Three ships of which no two fit a chamber together, and two equal chambers: a cut for each pair
@@ -33,11 +33,12 @@ fn a_worker_closes_by_the_cuts_of_another(rt: HostRuntime) -> Result<(), Fail> {
     Ok(())
 }
 
-// Notes the greatest best cost that was read, and whether the caller took a slot of the book alone.
+// Notes the greatest best cost that was read, and how often the caller told of the book that it has alone: for each
+// slot that it takes, and at the end.
 #[derive(Drop)]
 struct NotedGate {
     most: AtomicU64,
-    alone: AtomicBool,
+    alone: AtomicU64,
 }
 
 impl Gate for NotedGate {
@@ -46,7 +47,9 @@ impl Gate for NotedGate {
             Point::Read(cost) => {
                 self.most.fetch_max(cost, SeqCst);
             }
-            Point::Used(_) => self.alone.store(true, SeqCst),
+            Point::Used(_) => {
+                self.alone.fetch_add(1, SeqCst);
+            }
             _ => {}
         }
     }
@@ -59,10 +62,10 @@ fn workers_search_a_small_budget_to_its_end(rt: HostRuntime) -> Result<(), Fail>
     let case = case_from(EQUAL)?;
     let gate = NotedGate {
         most: AtomicU64::new(0),
-        alone: AtomicBool::new(false),
+        alone: AtomicU64::new(0),
     };
     let solved = solve(&rt, rt.alloc(), &case, 2, &gate)?;
     assert!(rt; gate.most.load(SeqCst) == solved.book.opening_cost());
-    assert!(rt; solved.book.cut(0).is_some() && !gate.alone.load(SeqCst));
+    assert!(rt; solved.book.cut(0).is_some() && gate.alone.load(SeqCst) == 1);
     Ok(())
 }

@@ -1,3 +1,0 @@
-//! Books under a lock.
-mod parts;
-mod threads;
