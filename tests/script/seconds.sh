@@ -1,6 +1,7 @@
 # `--seconds`: a search that ends before the time is over, one that is stopped by it, and one that is kept.
 
-"$top/glock" lot --number 2 --ships 96 --chambers 2 >"$room/long.lock"
+# 48 ships at once, which take far longer than a second on any machine
+"$top/glock" lot --number 2 --ships 48 --chambers 2 | awk '$1 == "ship" { $6 %= 21 } 1' >"$room/long.lock"
 ends_in_time() {
   local begun=$SECONDS
   call $1
