@@ -31,6 +31,23 @@ def beats_of_day(text, minute):
     return sorted(beats)
 
 
+def moorings_of_day(text):
+    """The ships of each chamber as they moor on a day that `play` printed."""
+    moored = {}
+    for line in text.splitlines()[:-1]:
+        words = line.split()
+        if words[2] == "moor":
+            moored.setdefault(words[1], []).append(words[3])
+    return moored
+
+
+def moorings_of_report(lockages):
+    moored = {}
+    for lockage in sorted(lockages, key=lambda lockage: lockage.start):
+        moored.setdefault(lockage.chamber, []).extend(lockage.names())
+    return moored
+
+
 def one_day(program, seed):
     """What is wrong with this day, or nothing."""
     random = randoms.Random(seed)
@@ -49,6 +66,8 @@ def one_day(program, seed):
     _, day = run(program, ["play"], lock.text() + plan)
     if sorted(state.beats) != beats_of_day(day, minute):
         return f"by {minute} has begun {sorted(state.beats)}, and play tells {beats_of_day(day, minute)}"
+    if moorings_of_day(day) != moorings_of_report(lockages):
+        return f"the ships moor as {moorings_of_day(day)}, and are reported as {moorings_of_report(lockages)}"
 
     withdrawn = change(random, lock, state, minute)
     # Who is withdrawn leaves his lockage, which may have turned its chamber.

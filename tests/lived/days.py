@@ -75,7 +75,7 @@ def plan_text(lockages):
 
 
 def read_report(text):
-    """The first line and the lockages of a report."""
+    """The first line and the lockages of a report, in which hosts stand before their guests."""
     lines, lockages, letters = text.splitlines(), [], {}
     for line in lines:
         words = line.split()
@@ -84,7 +84,7 @@ def read_report(text):
             letters = {}
         elif lockages and len(words) > 6 and words[2] == "x":
             letters[words[0]] = words[1]
-            host = words[8] if words[7] == "at" else "*"
+            host = letters[words[8]] if words[7] == "at" else "*"
             lockages[-1].berths.append(f"berth {words[1]} {words[3]} {words[5]} {words[6]} {host}")
     return lines[0], lockages
 

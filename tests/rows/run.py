@@ -42,8 +42,15 @@ class Ran:
     def has_same_plan(self):
         report = re.sub(r"^  \|.*\n| (end|flow) \d+$|^end\n", "", self.text, flags=re.M)
         dossier = Ran([*self.words, b"--dossier"], self.data)
-        is_same = sorted(re.split(r"^lockage \d+ ", report, flags=re.M)[1:]) == sorted(lockages_of(dossier.text))
+        lockages = re.split(r"^lockage \d+ ", report, flags=re.M)[1:]
+        is_same = sorted(map(by_letter, lockages)) == sorted(lockages_of(dossier.text))
         return is_same and dossier.is_accepted(self.first.removeprefix("optimal cost "))
+
+
+def by_letter(lockage):
+    """A lockage of a report with its ships by their letters, which go by number."""
+    first, *ships = lockage.splitlines(keepends=True)
+    return "".join([first, *sorted(ships)])
 
 
 def lockages_of(dossier):

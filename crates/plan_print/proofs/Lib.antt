@@ -1,5 +1,4 @@
 pub mod TextLemmas
 pub mod OrderLemmas
 pub mod CellLemmas
-pub mod ShipLemmas
 pub mod DrawingLemmas

@@ -1,6 +1,6 @@
 -- The report of a plan: the verdict, and each lockage with its ships and its drawing.
 use Rattle.std.specs.Prelude.{ℕ, ◌-◌, ◌<◌, List, [], ◌∷◌, ◌++◌, All, length, slice_index, codes, decimal}
-use Rattle.std.specs.List.{flat_map, range_with_len, enumerate_from}
+use Rattle.std.specs.List.{flat_map, enumerate_from}
 use Rattle.lock_model.specs.Fleet.{ship_at, chamber_at}
 use Rattle.lock_model.specs.Fitting.{deck_of}
 use Rattle.lock_model.specs.Placement.{spot_at}
@@ -13,6 +13,7 @@ use Rattle.lock_model.specs.declared.verdict.Verdict.{Verdict}
 use Rattle.lock_model.specs.declared.verdict.Verdict.TheVariants.{Optimal, OpenNodes, OpenTurns}
 use Rattle.lock_rules.specs.Lines.{end_of}
 use Rattle.lock_rules.specs.Plan.{cost_of}
+use Rattle.day_play.specs.Playing.{moor_order}
 use Rattle.instance_text.specs.Canonical.{way_word}
 use Rattle.plan_print.specs.Words.{letter, rank_word, moor_words}
 use Rattle.plan_print.specs.Order.{in_order}
@@ -52,9 +53,9 @@ ship_line i s p end =
 abbrev pub ship_line_at : Instance → Lockage → ℕ → List ℕ
 ship_line_at I l i = ship_line i (ship_at I (slice_index l.ships i)) (spot_at l.spots i) (end_of I l)
 
--- the ships of a lockage in rising number
+-- THE SHIPS OF A LOCKAGE in the order in which they come in
 unfoldable pub ship_lines : Instance → Lockage → List ℕ
-ship_lines I l = flat_map (ship_line_at I l) (range_with_len 0 (length l.ships))
+ship_lines I l = flat_map (ship_line_at I l) (moor_order I l)
 
 -- a numbered lockage with its ships and its drawing
 unfoldable pub lockage_text : Instance → (ℕ × Lockage) → List ℕ

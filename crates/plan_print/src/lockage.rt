@@ -10,6 +10,7 @@ ghost use Rattle.plan_print.specs.Report.{lockage_line, ship_line, ship_lines, l
 use crate::drawing::put_drawing;
 use crate::text::{letter, put_named, put_word, rank_word};
 use chamber_times::lockage_end;
+use day_play::moor_order;
 use instance_text::way_word;
 use lock_model::{Instance, Lockage, MOST, Moor, Ship, Spot, deck_of};
 use no_memory::NoMemory;
@@ -62,7 +63,7 @@ fn put_ship_line(
     put(out, b"\n")
 }
 
-/// Appends the lines of the ships of a lockage that ends at this minute.
+/// Appends the lines of the ships of a lockage that ends at this minute, in the order in which they come in.
 #[tactic(auto, unfolding(crate::specs::Report::ship_lines))]
 fn put_ship_lines(
     out: &mut Vec<u8>,
@@ -76,9 +77,13 @@ fn put_ship_lines(
     ensures { OnOk result (out.new.items ≡ out.old.items ++ ship_lines instance.now lockage.now) }
 {
     let ships = instance.ships.as_slice();
+    let numbers = lockage.ships.as_slice();
     let spots = lockage.spots.as_slice();
-    for (i, &number) in lockage.ships.as_slice().iter().enumerate() {
-        put_ship_line(out, i as u8, &ships[number as usize], &spots[i], end)?;
+    let order = moor_order(instance, lockage);
+    for &place in order.as_slice() {
+        let number = numbers[place as usize];
+        let spot = &spots[place as usize];
+        put_ship_line(out, place, &ships[number as usize], spot, end)?;
     }
     Ok(())
 }
