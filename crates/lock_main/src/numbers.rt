@@ -9,12 +9,11 @@ use std::sync::atomic::Ordering::SeqCst;
 // A cost that no plan has.
 const NO_PLAN: u64 = u64::MAX;
 
-// Room for a line of words and seven numbers.
-const LINE: usize = 224;
+// Room for a line of words and four numbers.
+const LINE: usize = 128;
 
 /// Nodes used, rounds of prices, cuts known, the first and the last cost below which no plan is, and the best
-/// plan's cost, both in minutes. Two threads that note at once may leave the worse number of two, until the
-/// next one is noted.
+/// plan's cost, both in minutes.
 #[derive(Drop)]
 pub(crate) struct Numbers {
     nodes: AtomicU64,
@@ -23,13 +22,6 @@ pub(crate) struct Numbers {
     first_low: AtomicU64,
     low: AtomicU64,
     cost: AtomicU64,
-}
-
-// Raises a number to at least this one.
-fn raise(number: &AtomicU64, least: u64) {
-    if number.load(SeqCst) < least {
-        number.store(least, SeqCst);
-    }
 }
 
 impl Numbers {
@@ -56,7 +48,9 @@ impl Numbers {
             }
             Point::Used(count) => self.nodes.store(count as u64, SeqCst),
             Point::Knows(cuts) => self.note_round(cuts),
-            Point::Read(cost) if cost < self.cost.load(SeqCst) => self.cost.store(cost, SeqCst),
+            Point::Read(cost) => {
+                self.cost.fetch_min(cost, SeqCst);
+            }
             Point::Low(low) => self.note_low(low),
             _ => {}
         }
@@ -64,14 +58,12 @@ impl Numbers {
 
     fn note_round(&self, cuts: u64) {
         self.rounds.fetch_add(1, SeqCst);
-        raise(&self.cuts, cuts);
+        self.cuts.fetch_max(cuts, SeqCst);
     }
 
     fn note_low(&self, low: u64) {
-        if self.first_low.load(SeqCst) == 0 {
-            self.first_low.store(low, SeqCst);
-        }
-        raise(&self.low, low);
+        let _ = self.first_low.compare_exchange(0, low, SeqCst, SeqCst);
+        self.low.fetch_max(low, SeqCst);
     }
 
     /// Whether some plan's cost was told.
