@@ -1,4 +1,4 @@
-//! The berths of a deck's ships, the longest first.
+//! The berths of a deck's ships, hosts and long ships first.
 ghost use Rattle.std.specs.Prelude.{◌≡◌, ◌<◌, ◌*◌, ◌≤◌, [], ◌∷◌, ◌++◌, None, length, slice_index_or, OnOk, IfOk, IfSome, IfNone};
 ghost use Rattle.refute_rules.specs.declared.choices.Choice.TheVariants.{Before};
 ghost use Rattle.refute_rules.specs.BerthTrees.{OfBerth, IsOpen, split_options, split_numbers};
@@ -9,14 +9,42 @@ use crate::likely::found_fault;
 use crate::ordering::order_ships;
 use crate::search::{Search, Visit, close, try_option};
 use berth_check::BerthCase;
-use deck_cases::{Choice, berth_of, berth_option, length_of};
+use deck_cases::{Choice, berth_of, berth_option, host_of, length_of, width_of};
 use lock_model::{Deck, MOST};
 use no_memory::NoMemory;
 use refute_rules::Marks;
 use std::alloc::AllocError;
 
-// The longer of a ship that was found and this one, where the berth of this one isn't decided.
-fn longer(deck: &Deck, choices: &[Choice], found: Option<u8>, ship: u8) -> Option<u8>
+// Whether a ship is the host of a ship whose berth is decided.
+fn has_guest(deck: &Deck, choices: &[Choice], ship: u8) -> bool {
+    for guest in 0..deck.ships.as_slice().len() as u8 {
+        if host_of(choices, guest as u32) == Some(ship) {
+            return true;
+        }
+    }
+    false
+}
+
+// Whether a ship is longer than another, or as long and wider.
+fn is_larger(deck: &Deck, ship: u8, other: u8) -> bool {
+    let one = length_of(deck, ship as u32);
+    let two = length_of(deck, other as u32);
+    one > two || one == two && width_of(deck, ship as u32) > width_of(deck, other as u32)
+}
+
+// Whether the berth of a ship is to be decided before that of another: hosts come first, since the
+// places of their guests across the chamber aren't known before, and then larger ships.
+fn comes_before(deck: &Deck, choices: &[Choice], ship: u8, other: u8) -> bool {
+    let is_host = has_guest(deck, choices, ship);
+    if is_host == has_guest(deck, choices, other) {
+        is_larger(deck, ship, other)
+    } else {
+        is_host
+    }
+}
+
+// The ship that was found, or this one where its berth isn't decided and comes before.
+fn earlier(deck: &Deck, choices: &[Choice], found: Option<u8>, ship: u8) -> Option<u8>
     requires found { IfSome found (λ i. IsOpen deck.now choices.now (OfBerth i)) }
     requires ship { ship < length deck.now.ships }
     ensures some { IfSome result (λ i. IsOpen deck.now choices.now (OfBerth i)) }
@@ -26,19 +54,19 @@ fn longer(deck: &Deck, choices: &[Choice], found: Option<u8>, ship: u8) -> Optio
         return found;
     }
     match found {
-        Some(other) if length_of(deck, other as u32) >= length_of(deck, ship as u32) => found,
+        Some(other) if !comes_before(deck, choices, ship, other) => found,
         _ => Some(ship),
     }
 }
 
-// The longest ship whose berth isn't decided, the first of those that are equally long.
+// The ship whose berth is decided next, the first of those of which none comes before another.
 fn next_ship(deck: &Deck, choices: &[Choice]) -> Option<u8>
     ensures some { IfSome result (λ i. IsOpen deck.now choices.now (OfBerth i)) }
     ensures none { IfNone result (AreDecided choices.now (length deck.now.ships)) }
 {
     let mut next = None;
     for ship in 0..deck.ships.as_slice().len() as u8 {
-        next = longer(deck, choices, next, ship);
+        next = earlier(deck, choices, next, ship);
     }
     next
 }

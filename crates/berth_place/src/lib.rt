@@ -1,5 +1,5 @@
-//! The placer by berths: decides the berths of a deck's ships, the longest first, and then the order
-//! of each two that overlap, or refutes the deck.
+//! The placer by berths: decides the berths of a deck's ships, hosts and long ships first, and then the
+//! order of each two that overlap, or refutes the deck.
 //!
 //! `place_by_berths` answers with legal spots, with a berth tree of the deck, or where its turns are
 //! too few.

@@ -43,6 +43,10 @@ pub(crate) enum Answer {
 // The most turns that `place` is asked before the placer by berths, where `place` comes first.
 const FIRST_TURNS: u32 = 500;
 
+// How many turns the placer by berths has for each turn of the others, where these have many. Its
+// turns are short, since most of its options are faults, and the others seldom decide what it can't.
+const BERTHS_A_TURN: u32 = 8;
+
 // The spot of a ship alone: at the near end of the left quay.
 fn alone(deck: &Deck) -> Spots {
     let mut spots = Spots::new();
@@ -110,13 +114,22 @@ fn ask_all(alloc: Global, deck: &Deck, turns: u32) -> Result<Answer, NoMemory>
     }
 }
 
+// How many turns the placer by berths has.
+fn berth_turns(turns: u32) -> u32 {
+    if turns < FIRST_TURNS {
+        turns
+    } else {
+        turns.saturating_mul(BERTHS_A_TURN)
+    }
+}
+
 // Asks the placer by berths, and the other two where that one has spent its turns.
 fn ask_by_berths(alloc: Global, deck: &Deck, turns: u32) -> Result<Answer, NoMemory>
     requires turns { 1 ≤ turns }
     requires clear { HasNoClash deck.now }
     ensures { IfOk result (IsAnswered deck.now turns) }
 {
-    match place_by_berths(alloc, deck, turns)? {
+    match place_by_berths(alloc, deck, berth_turns(turns))? {
         BerthPlaced::Fits(spots) => Ok(Answer::Fits(spots)),
         BerthPlaced::Refuted(marks) => Ok(Answer::Refuted(Refutation::Berths(marks))),
         BerthPlaced::Spent(_) => ask_all(alloc, deck, turns),
@@ -184,8 +197,9 @@ fn ask(alloc: Global, deck: &Deck, first: FirstPlacer, turns: u32) -> Result<Ans
 /// refute it, and a ship that fits alone lies at the near end of the left quay. For all others the
 /// placers are asked, each where those before it were spent: `place` with at most 500 of the turns, or
 /// only a quick reason is looked for where the placer by berths is to come first; then
-/// `place_by_berths`, `place` and `place_by_spots` with all turns. So `Spent` comes only where all three
-/// gave up. Its only refusal is want of memory.
+/// `place_by_berths` with eight times the turns, or as many where they are fewer than 500, and `place`
+/// and `place_by_spots` with all turns. So `Spent` comes only where all three gave up. Its only
+/// refusal is want of memory.
 pub(crate) fn settle(
     alloc: Global,
     asked: &GroupAsked<'_>,
