@@ -8,6 +8,7 @@ use crate::fitting::Fitting;
 use crate::keeping::keep_lines;
 use crate::plan::plan_of;
 use crate::putting::{Trial, put};
+use crate::stretches::{Spare, better_stretches};
 use lock_model::{Instance, Plan};
 use master_branch::arrival_order;
 use no_memory::NoMemory;
@@ -16,6 +17,19 @@ use std::alloc::Global;
 
 // How often all ships are taken out and put in again.
 const MOST_ROUNDS: u32 = 3;
+// The same of stretches.
+const MOST_STRETCH_ROUNDS: u32 = 2;
+// Stretches are tried of a draft that costs less than what is asked and this part of it.
+const NEAR_PART: u64 = 32;
+
+/// What is taken out of a draft and put in again.
+#[derive(Clone, Copy)]
+pub enum Moves {
+    /// Ships one by one.
+    Ships,
+    /// Stretches of the order of arrival too.
+    Stretches,
+}
 
 // Puts all ships in that the draft lacks, in arrival order; whether all could be put.
 #[inline(never)]
@@ -88,6 +102,52 @@ fn better<F: Fitting>(
     Ok(gained)
 }
 
+// Takes ships out and puts them in again one by one, as long as one gains.
+fn better_by_ships<F: Fitting>(
+    instance: &Instance,
+    draft: &mut Draft,
+    spare: &mut Spare,
+    fitting: &mut F,
+) -> Result<(), NoMemory>
+    requires draft { IsDraft instance.now draft.old }
+    requires same { F.instance fitting.old ≡ instance.now }
+    ensures draft { IsDraft instance.now draft.new }
+    ensures same { F.instance fitting.new ≡ instance.now }
+{
+    for _ in 0..MOST_ROUNDS {
+        if !better(instance, draft, &mut spare.trials, fitting)? {
+            return Ok(());
+        }
+    }
+    Ok(())
+}
+
+// Takes stretches out and puts them in again, and then ships one by one, as long as a stretch gains.
+fn better_by_stretches<F: Fitting>(
+    instance: &Instance,
+    draft: &mut Draft,
+    spare: &mut Spare,
+    fitting: &mut F,
+) -> Result<(), NoMemory>
+    requires draft { IsDraft instance.now draft.old }
+    requires same { F.instance fitting.old ≡ instance.now }
+    ensures draft { IsDraft instance.now draft.new }
+    ensures same { F.instance fitting.new ≡ instance.now }
+{
+    for _ in 0..MOST_STRETCH_ROUNDS {
+        if !better_stretches(instance, draft, spare, fitting)? {
+            return Ok(());
+        }
+        better(instance, draft, &mut spare.trials, fitting)?;
+    }
+    Ok(())
+}
+
+// Whether a draft of this cost is worth stretches where less than so many minutes is asked.
+fn is_near(cost: u64, below: u64) -> bool {
+    cost < below.saturating_add(below / NEAR_PART)
+}
+
 /// A legal plan near loose lines that costs less than so many minutes, if one is found, in a box. Its only
 /// refusal is want of memory.
 pub fn near_plan<F: Fitting>(
@@ -95,6 +155,7 @@ pub fn near_plan<F: Fitting>(
     instance: &Instance,
     lines: &LooseLines,
     below: u64,
+    moves: Moves,
     fitting: &mut F,
 ) -> Result<Option<Box<Plan>>, NoMemory>
     requires same { F.instance fitting.old ≡ instance.now }
@@ -104,14 +165,16 @@ pub fn near_plan<F: Fitting>(
 {
     let mut draft = Draft::new(instance);
     keep_lines(instance, &mut draft, lines, fitting)?;
-    let mut trials = Vec::new(alloc);
-    if !complete(instance, &mut draft, &mut trials, fitting)? {
+    let mut spare = Spare::new(alloc);
+    if !complete(instance, &mut draft, &mut spare.trials, fitting)? {
         return Ok(None);
     }
-    for _ in 0..MOST_ROUNDS {
-        if !better(instance, &mut draft, &mut trials, fitting)? {
-            break;
+    better_by_ships(instance, &mut draft, &mut spare, fitting)?;
+    match moves {
+        Moves::Stretches if is_near(draft.flow(), below) => {
+            better_by_stretches(instance, &mut draft, &mut spare, fitting)?
         }
+        Moves::Ships | Moves::Stretches => {}
     }
     if draft.flow() >= below {
         return Ok(None);

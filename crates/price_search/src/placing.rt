@@ -6,7 +6,7 @@ use crate::found::Found;
 use crate::round::Asked;
 use deck_cuts::{Cut, cut_hits};
 use lock_model::{Instance, Ships, Spots};
-use near_plan::{Fitting, fits, near_plan};
+use near_plan::{Fitting, Moves, fits, near_plan};
 use no_memory::NoMemory;
 use node_work::{FirstPlacer, KnownCuts, Search, Settled, settle_known};
 use placed_groups::Memory;
@@ -156,7 +156,14 @@ pub fn place_uncut<K: KnownCuts>(
     let plan = match groups {
         UncutGroups::Plan(plan) => {
             let lines = loose_lines(alloc, plan)?;
-            near_plan(alloc, instance, &lines, asked.best, &mut placer)?
+            near_plan(
+                alloc,
+                instance,
+                &lines,
+                asked.best,
+                Moves::Ships,
+                &mut placer,
+            )?
         }
         UncutGroups::Steps(labels) => {
             place_steps(instance, labels, &mut placer)?;

@@ -10,6 +10,7 @@ use crate::round::LIMITS;
 use crate::sweeping::Goals;
 use lock_model::Instance;
 use master_branch::Node;
+use near_plan::Moves;
 use no_memory::NoMemory;
 use price_bound::{KeptLines, PricedNode, show};
 use price_raise::{Ascent, Pace};
@@ -33,6 +34,10 @@ const COSTS_OF_A_SWEEP: u64 = 4;
 const MOST_SWEPT_GROUPS: usize = 600_000;
 // The most ascents at the root after its first one, each with more triples.
 const MORE_ASCENTS: u32 = 3;
+// A gap that is a greater part of the best cost is wide. It is told after so many rounds.
+const WIDE_PART: u64 = 50;
+
+const ROUNDS_BEFORE: u32 = 100;
 // With fewer missing ships a node is searched faster than prices are worked out.
 const FEWEST_MISSING: usize = 5;
 
@@ -307,6 +312,21 @@ impl Pricing {
     /// round, at any other in each one.
     pub(crate) fn is_near_time(&self) -> bool {
         !self.is_first || self.first.plans_each_round() || self.left % 2 == 0
+    }
+
+    // Whether what rounds have reached is far below the best cost, by so many of them that it tells.
+    fn is_wide(&self, best: u64) -> bool {
+        let gap = best.saturating_sub(self.reached());
+        self.left < MOST_ROUNDS - ROUNDS_BEFORE && gap > best / WIDE_PART
+    }
+
+    /// What is moved in plans near the least lines of a node of this depth, where the best plan costs so many
+    /// minutes: at the root of many ships stretches too while the gap is wide. They take longer than a table.
+    pub(crate) fn moves(&self, depth: u8, best: u64) -> Moves {
+        match self.first {
+            FirstNode::Lasting if depth == 0 && self.is_wide(best) => Moves::Stretches,
+            FirstNode::Long | FirstNode::Steady | FirstNode::Lasting => Moves::Ships,
+        }
     }
 
     /// Whether further ascents may be made at the root.

@@ -138,13 +138,14 @@ impl Pricing {
         }
         let is_cut = !placer.found.is_empty();
         let near = self.is_near_time();
+        let moves = self.moves(asked.node.depth(), asked.best);
         let order = arrival_order(instance);
         let missing = &order.as_slice()[asked.node.depth() as usize..];
         let again = self
             .ascent
             .raise(missing, &stands_in(lines), lines.sum, asked.best, is_cut);
         let plan = if near || !again {
-            near_plan(alloc, instance, lines, asked.best, &mut placer)?
+            near_plan(alloc, instance, lines, asked.best, moves, &mut placer)?
         } else {
             None
         };
