@@ -7,12 +7,14 @@ const FEW_LABELS: u64 = 4_000;
 const MANY_LABELS: u64 = 100_000;
 
 /// Costs, in minutes, up to a last one. What a sweep takes hangs on how far its cost is above what prices
-/// bound, so it is that distance that rises.
+/// bound, so it is that distance that rises: last by so much, before which so many labels were made.
 #[derive(Clone, Copy)]
 pub(crate) struct Goals {
     low: u64,
     distance: u64,
     last: u64,
+    farther: u64,
+    before: u64,
 }
 
 impl Goals {
@@ -26,6 +28,8 @@ impl Goals {
             low,
             distance,
             last,
+            farther: 1,
+            before: 0,
         }
     }
 
@@ -36,10 +40,22 @@ impl Goals {
         self.low.saturating_add(self.distance).min(self.last)
     }
 
+    // How much farther a cost may be that is foretold to take no more than so many labels, where so many were
+    // made for the last one: each minute makes as many more as one of the last step did, times the factor by
+    // which that step made them more.
+    fn farthest(&self, labels: u64, most: u64) -> u64 {
+        let more = labels.saturating_sub(self.before);
+        if self.before == 0 || self.farther == 0 {
+            return most;
+        }
+        let a_minute = more.saturating_mul(labels) / self.before / self.farther;
+        most.saturating_sub(labels) / a_minute.max(1)
+    }
+
     /// After a cost for which so many labels were made, the next one is half as far again, or an eighth where
-    /// they weren't few, or half of that where they were many. Labels grow so fast with the distance that the
-    /// last cost takes most.
-    pub(crate) fn rise(&mut self, labels: u64)
+    /// they weren't few, or half of that where they were many, and no farther then than so many labels are
+    /// foretold to allow. Labels grow so fast with the distance that the last cost takes most.
+    pub(crate) fn rise(&mut self, labels: u64, most: u64)
         ensures { self.new.last ≡ self.old.last }
     {
         let parts = match labels {
@@ -47,7 +63,12 @@ impl Goals {
             FEW_LABELS..MANY_LABELS => 8,
             _ => 16,
         };
-        let farther = self.distance / parts + 1;
+        let mut farther = self.distance / parts + 1;
+        if labels >= MANY_LABELS {
+            farther = farther.min(self.farthest(labels, most)).max(1);
+        }
         self.distance = self.distance.saturating_add(farther);
+        self.farther = farther;
+        self.before = labels;
     }
 }

@@ -104,7 +104,7 @@ impl Sweeper<'_, '_, '_> {
             if cost < goal || goal == last {
                 return Ok(cost);
             }
-            goals.rise(self.made.labels.items.len() as u64);
+            goals.rise(self.made.labels.items.len() as u64, self.most as u64);
         }
         Ok(cost)
     }

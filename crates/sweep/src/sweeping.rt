@@ -250,7 +250,7 @@ fn sweep_goals(
         }
         if done {
             reached = goal;
-            goals.rise(made as u64);
+            goals.rise(made as u64, most_labels(limits, labels, looks) as u64);
         } else {
             looks = looks && made >= LATE_LABELS;
             let late = late_behind(alloc, asked, case, sweeper, looks)?;
