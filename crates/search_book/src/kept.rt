@@ -22,4 +22,14 @@ impl<L: Ledger> Kept<L> {
     {
         self.book.keeps();
     }
+
+    /// One thread more waits.
+    pub(crate) fn begin_waiting(&mut self) {
+        self.waiting = self.waiting.saturating_add(1);
+    }
+
+    /// One thread that waited was told.
+    pub(crate) fn end_waiting(&mut self) {
+        self.waiting = self.waiting.saturating_sub(1);
+    }
 }

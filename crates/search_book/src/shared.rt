@@ -44,11 +44,11 @@ pub struct SharedBook<L: Ledger> {
     pub(crate) nobody: Mutex<Nobody<L>>,
 }
 
-// Whether some event was accepted.
-fn has_accepted(gone: &Gone) -> bool {
-    match gone.next {
+// Whether the event before a taking was accepted.
+fn has_ended(next: &Next) -> bool {
+    match next {
         Next::Taken(_) => true,
-        Next::Refused(_) => gone.place > 0,
+        Next::Refused(_) => false,
     }
 }
 
@@ -64,11 +64,11 @@ impl<L: Ledger> SharedBook<L> {
         self.lock.lock(rt)
     }
 
-    // Leaves the lock after an accepted event, and tells those who wait, if any do.
-    fn leave(&self, kept: MutexGuard<'_, Kept<L>>) {
-        let waiting = kept.waiting;
+    // Leaves the lock, and tells those who wait, if any do, where an event was accepted.
+    fn leave(&self, kept: MutexGuard<'_, Kept<L>>, has_accepted: bool) {
+        let must_tell = has_accepted && kept.waiting > 0;
         drop(kept);
-        if waiting > 0 {
+        if must_tell {
             self.told.notify_all();
         }
     }
@@ -79,9 +79,9 @@ impl<L: Ledger> SharedBook<L> {
         rt: &W,
         mut kept: MutexGuard<'k, Kept<L>>,
     ) -> MutexGuard<'k, Kept<L>> {
-        kept.waiting = kept.waiting.saturating_add(1);
+        kept.begin_waiting();
         let mut kept = self.told.wait(rt, kept);
-        kept.waiting = kept.waiting.saturating_sub(1);
+        kept.end_waiting();
         kept
     }
 
@@ -100,9 +100,7 @@ impl<L: Ledger> SharedBook<L> {
         let inside = &mut *kept;
         inside.keeps();
         let reply = apply(inside, share, event);
-        if is_accepting(&reply) {
-            self.leave(kept);
-        }
+        self.leave(kept, is_accepting(&reply));
         reply
     }
 
@@ -127,9 +125,7 @@ impl<L: Ledger> SharedBook<L> {
         let inside = &mut *kept;
         inside.keeps();
         let next = apply_and_take(inside, share, worker, ending);
-        if let Next::Taken(_) = next {
-            self.leave(kept);
-        }
+        self.leave(kept, has_ended(&next));
         next
     }
 
@@ -154,9 +150,7 @@ impl<L: Ledger> SharedBook<L> {
         let inside = &mut *kept;
         inside.keeps();
         let next = close_and_take(inside, share, worker, closing);
-        if let Next::Taken(_) = next {
-            self.leave(kept);
-        }
+        self.leave(kept, has_ended(&next));
         next
     }
 
@@ -194,9 +188,7 @@ impl<L: Ledger> SharedBook<L> {
         let inside = &mut *kept;
         inside.keeps();
         let gone = go_ahead(inside, share, worker, id, stretch);
-        if has_accepted(&gone) {
-            self.leave(kept);
-        }
+        self.leave(kept, gone.place > 0 || has_ended(&gone.next));
         gone
     }
 
@@ -216,9 +208,7 @@ impl<L: Ledger> SharedBook<L> {
             inside.keeps();
             let reply = apply(inside, share, Event::Take(worker));
             if !is_idle(&reply) {
-                if is_accepting(&reply) {
-                    self.leave(kept);
-                }
+                self.leave(kept, is_accepting(&reply));
                 return reply;
             }
             kept = self.wait(rt, kept);

@@ -2,6 +2,7 @@
 use Rattle.std.proofs.Common.{◌≡◌, ℕ, suc, ◌≤◌, List, [], ◌∷◌, ◌++◌, length, refl, sym, ap, ◌∙◌, subst, arith, Bool, true, false, not, cond, Some, None, nat_eq, nat_le, slice_get, slice_index_or}
 use Rattle.std.specs.declared.option.Option.{Option}
 use Rattle.lock_model.specs.Deck.{Deck}
+use Rattle.lock_model.specs.declared.limits.TheConstants.{WORKERS}
 use Rattle.lock_model.specs.declared.instance.Instance.{Instance}
 use Rattle.lock_model.specs.declared.group.Group.{Group}
 use Rattle.lock_model.specs.declared.plan.Plan.{Plan}
@@ -25,6 +26,7 @@ use Rattle.book_core.specs.Replies.{Answers, Does, Steps, Stays}
 use Rattle.node_work.specs.declared.search.Search.{Search}
 use Rattle.solve_workers.specs.Closable.{IsOwnSearch}
 use Rattle.solve_workers.specs.Driving.{Deed, IsDrivers, AreDeeds, after_deeds, IsDriven}
+use Rattle.solve_workers.specs.Holding.{IsRunning}
 
 -- ---- who has ended stays, for the driver doesn't release
 
@@ -152,3 +154,7 @@ own_still a b search driven own = record {
   instance_is = own.instance_is ∙ sym (ap (λ (k : Case). k.instance) driven.case);
   turns_are = own.turns_are ∙ sym (ap (λ (k : Case). k.turns) driven.case);
 }
+
+-- the driver hasn't released still
+pub running_still : (a b : Book) → IsDriven a b → IsRunning a → IsRunning b
+running_still a b driven is = record { running = subst (λ ended. slice_index_or ended WORKERS false ≡ false) (sym driven.ended) is.running }

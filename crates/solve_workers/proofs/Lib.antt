@@ -14,3 +14,4 @@ pub mod SettleLemmas
 pub mod PriceLemmas
 pub mod DeskLemmas
 pub mod ShowingLemmas
+pub mod CrewLemmas

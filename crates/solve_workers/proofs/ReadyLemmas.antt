@@ -1,8 +1,7 @@
 -- The driver may take a book on still.
-use Rattle.std.proofs.Common.{◌≡◌, ℕ, ◌≤◌, List, sym, ap, ◌∙◌, subst, arith, IfOk, Ok, Err, false, slice_index_or}
+use Rattle.std.proofs.Common.{◌≡◌, ℕ, ◌≤◌, List, sym, ap, ◌∙◌, subst, arith, IfOk, Ok, Err}
 use Rattle.std.specs.declared.result.Result.{Result}
 use Rattle.std.specs.Prelude.{Box}
-use Rattle.lock_model.specs.declared.limits.TheConstants.{WORKERS}
 use Rattle.lock_model.specs.declared.plan.Plan.{Plan}
 use Rattle.lock_rules.specs.Plan.{IsLegal, cost_of}
 use Rattle.refute_rules.specs.Cuts.{Cut}
@@ -13,14 +12,14 @@ use Rattle.book_core.specs.Keeps.{IsSound}
 use Rattle.solve_workers.specs.Driving.{IsDriven}
 use Rattle.solve_workers.specs.Holding.{IsRunning}
 use Rattle.solve_workers.specs.Opening.{IsReady, opened_with}
-use Rattle.solve_workers.proofs.DrivenLemmas.{driven_cost}
+use Rattle.solve_workers.proofs.DrivenLemmas.{driven_cost, running_still}
 
 pub ready_driven : (case : Case) (cost : ℕ) (old new : Book) → IsReady case cost old → IsDriven old new → HoldsNothing new → IsReady case cost new
 ready_driven case cost old new ready driven free = record {
   case_is = driven.case ∙ ready.case_is;
   opening = let same = driven_cost old new driven in let most = ready.opening in omega (arith, same, most);
   free = free;
-  running = record { running = subst (λ ended. slice_index_or ended WORKERS false ≡ false) (sym driven.ended) ready.running.running };
+  running = running_still old new driven ready.running;
 }
 
 pub ready_again : (case : Case) (cost : ℕ) (old new : Book) → IsReady case cost old → new.case ≡ old.case → opening_cost new ≤ opening_cost old → HoldsNothing new → IsRunning new → IsReady case cost new
