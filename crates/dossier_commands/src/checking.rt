@@ -51,7 +51,7 @@ fn dossier_answer(alloc: Global, bytes: &[u8]) -> Answer
 #[inline(never)]
 #[tactic(auto, using(crate::proofs::DossierLemmas::check_fair, run_answers::proofs::SourceLemmas::bytes_answer, run_answers::proofs::SourceLemmas::unreadable_answers))]
 pub fn check_answer<S: Source>(alloc: Global, src: &mut S) -> Answer
-    ensures answer { AnswersSource dossier_limit AnswersCheck (drained (S.left src.old) (S.left src.new) (S.faults src.old) (S.faults src.new)) result.status (bytes_in result.text) }
+    ensures answer { AnswersSource dossier_limit AnswersCheck (drained S.left S.faults src.old src.new) result.status (bytes_in result.text) }
 {
     match read_source(alloc, src, DOSSIER_LIMIT) {
         Ok(bytes) => dossier_answer(alloc, bytes.as_slice()),

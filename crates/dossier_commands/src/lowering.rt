@@ -58,7 +58,7 @@ fn dossier_answer(alloc: Global, bytes: &[u8]) -> Answer
 #[inline(never)]
 #[tactic(auto, using(crate::proofs::OpenLemmas::lower_fair, run_answers::proofs::SourceLemmas::bytes_answer, run_answers::proofs::SourceLemmas::unreadable_answers))]
 pub fn lower_answer<S: Source>(alloc: Global, src: &mut S) -> Answer
-    ensures answer { AnswersSource dossier_limit AnswersLower (drained (S.left src.old) (S.left src.new) (S.faults src.old) (S.faults src.new)) result.status (bytes_in result.text) }
+    ensures answer { AnswersSource dossier_limit AnswersLower (drained S.left S.faults src.old src.new) result.status (bytes_in result.text) }
 {
     match read_source(alloc, src, DOSSIER_LIMIT) {
         Ok(bytes) => dossier_answer(alloc, bytes.as_slice()),

@@ -16,7 +16,7 @@ use Rattle.run_answers.specs.Sources.{Drained, Saying, AnswersSource, IsServed, 
 use Rattle.run_answers.specs.declared.status.Status.{Status}
 use Rattle.run_answers.specs.declared.status.Status.TheVariants.{Good, Open, Words, Refused, ReadFault, WriteFault, NoMemory, BadDossier, Unfit, PlanRefused}
 use Rattle.run_answers.proofs.SourceLemmas.{served_says}
-use Rattle.solve_commands.specs.Searching.{Search, PrintsOptimal, PrintsOpen, AnswersSearch}
+use Rattle.solve_commands.specs.Searching.{Search, AnswersPrinted}
 use Rattle.solve_commands.specs.Solving.{solve_limit, search_of, AnswersSolve}
 use Rattle.solve_commands.specs.Lots.{IsLot, AnswersLot, AnswersTrial}
 use Rattle.solve_commands.proofs.EnoughLemmas.{open_ends, left_ends}
@@ -65,7 +65,7 @@ module _ (options : SolveOptions) (bytes : List ℕ) (I : Instance) (means : Mea
 
 -- ---- `lot` and `trial`
 
-lot_ends : (options : LotOptions) (status : Status) (text : List ℕ) → AnswersLot options.number options.ships options.chambers status text → MayPrint status
+lot_ends : (options : LotOptions) (status : Status) (text : List ℕ) → AnswersLot options status text → MayPrint status
 lot_ends options Good text told = tt
 lot_ends options Open text told = told
 lot_ends options Words text told = told
@@ -77,7 +77,7 @@ lot_ends options BadDossier text told = told
 lot_ends options Unfit text told = told
 lot_ends options PlanRefused text told = told
 
-line_ends : (k : Search) (status : Status) (text : List ℕ) → AnswersSearch (PrintsOptimal verdict_line) (PrintsOpen verdict_line) k status text → MayEnd k.instance k.nodes k.turns status
+line_ends : (k : Search) (status : Status) (text : List ℕ) → AnswersPrinted verdict_line k status text → MayEnd k.instance k.nodes k.turns status
 line_ends k Good text told = tt
 line_ends k Open text told = open_ends verdict_line k text told
 line_ends k Words text told = told
@@ -90,7 +90,7 @@ line_ends k Unfit text told = told
 line_ends k PlanRefused text told = told
 
 trial_ends : (options : TrialOptions) (I : Instance) → IsLot options.lot.number options.lot.ships options.lot.chambers I → (status : Status) (text : List ℕ)
-    → AnswersTrial options.lot.number options.lot.ships options.lot.chambers options.nodes options.turns status text → MayEnd I options.nodes options.turns status
+    → AnswersTrial options status text → MayEnd I options.nodes options.turns status
 trial_ends options I lot status text told =
     let same : told.instance ≡ I = same_instance told.instance I (told.lot.chambers_are ∙ sym lot.chambers_are) (told.lot.ships_are ∙ sym lot.ships_are) in
     subst (λ J. MayEnd J options.nodes options.turns status) same (line_ends (search_of options.nodes options.turns told.instance) status text told.answer)

@@ -24,9 +24,8 @@ use Rattle.lock_top.specs.Runs.{Run, Got}
 abbrev pub AnswersCommand : Command → Drained → Status → List ℕ → Type 0
 AnswersCommand (Solve options) source status text = AnswersSource solve_limit (AnswersSolve options) source status text
 AnswersCommand Check source status text = AnswersSource dossier_limit AnswersCheck source status text
-AnswersCommand (Lot options) source status text = IsUnread source × AnswersLot options.number options.ships options.chambers status text
-AnswersCommand (Trial options) source status text =
-    IsUnread source × AnswersTrial options.lot.number options.lot.ships options.lot.chambers options.nodes options.turns status text
+AnswersCommand (Lot options) source status text = IsUnread source × AnswersLot options status text
+AnswersCommand (Trial options) source status text = IsUnread source × AnswersTrial options status text
 AnswersCommand Judge source status text = AnswersSource plan_limit AnswersJudge source status text
 AnswersCommand Play source status text = AnswersSource plan_limit AnswersPlay source status text
 AnswersCommand (Replan options) source status text = AnswersSource plan_limit (AnswersReplan options) source status text

@@ -12,8 +12,9 @@ pub record Filled : Type 0 where
   pub faults : ℕ
   pub faults_after : ℕ
 
-abbrev pub filled : Option (List ℕ) → Option (List ℕ) → ℕ → ℕ → Filled
-filled held held_after faults faults_after = record { held = held; held_after = held_after; faults = faults; faults_after = faults_after }
+-- the same, by what sinks of a type tell: the bytes that they hold, and the count of faults
+abbrev pub filled : {Snk : Type 0} → (Snk → Option (List ℕ)) → (Snk → ℕ) → Snk → Snk → Filled
+filled held faults old new = record { held = held old; held_after = held new; faults = faults old; faults_after = faults new }
 
 pub record Run : Type 0 where
   pub words : List (List ℕ)

@@ -29,7 +29,7 @@ fn command_answer<R: Threads + Wait + Sync, S: Source, G: Gate + Sync>(
     gate: &G,
 ) -> Answer
     requires { HasNumbers command.now }
-    ensures answer { AnswersCommand command.now (drained (S.left src.old) (S.left src.new) (S.faults src.old) (S.faults src.new)) result.status (bytes_in result.text) }
+    ensures answer { AnswersCommand command.now (drained S.left S.faults src.old src.new) result.status (bytes_in result.text) }
 {
     match command {
         Command::Solve(options) => solve_answer(rt, alloc, options, src, gate),
@@ -61,7 +61,7 @@ pub(crate) fn words_answer<R: Threads + Wait + Sync, S: Source, G: Gate + Sync>(
     src: &mut S,
     gate: &G,
 ) -> Answer
-    ensures answer { RunAnswers (map string_bytes words.now) (drained (S.left src.old) (S.left src.new) (S.faults src.old) (S.faults src.new)) result.status (bytes_in result.text) }
+    ensures answer { RunAnswers (map string_bytes words.now) (drained S.left S.faults src.old src.new) result.status (bytes_in result.text) }
 {
     match read_words(alloc, words) {
         Ok(command) => command_answer(rt, alloc, &command, src, gate),

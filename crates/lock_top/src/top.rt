@@ -46,7 +46,7 @@ pub fn run<R: Threads + Wait + Sync, S: Source, K: Sink, G: Gate + Sync>(
     out: &mut K,
     gate: &G,
 ) -> Status
-    ensures { KeepsItsWord (run_of (map string_bytes words.now) (drained (S.left src.old) (S.left src.new) (S.faults src.old) (S.faults src.new)) (filled (K.held out.old) (K.held out.new) (K.faults out.old) (K.faults out.new)) result) }
+    ensures { KeepsItsWord (run_of (map string_bytes words.now) (drained S.left S.faults src.old src.new) (filled K.held K.faults out.old out.new) result) }
 {
     let answer = words_answer(rt, alloc, words, src, gate);
     match write_all_of(out, answer.text.as_slice()) {

@@ -28,7 +28,7 @@ fn refusal() -> Answer
 /// where the source counted a fault, and the other statuses with their causes and texts as those of
 /// `judge`, `check` and `lower`. Each yields to want of memory.
 pub fn answer_to<S: Source>(alloc: Global, words: &[String], src: &mut S) -> Answer
-    ensures { AnswersRun (map string_bytes words.now) (drained (S.left src.old) (S.left src.new) (S.faults src.old) (S.faults src.new)) result.status (bytes_in result.text) }
+    ensures { AnswersRun (map string_bytes words.now) (drained S.left S.faults src.old src.new) result.status (bytes_in result.text) }
 {
     match asked_in(words) {
         Some(dial) => picture_answer(alloc, dial, src),

@@ -127,7 +127,7 @@ fn text_answer(alloc: Global, dial: Dial, bytes: &[u8]) -> Answer
 /// `judge`, `check` and `lower` do.
 #[tactic(auto, using(crate::proofs::AnswerLemmas::picture_fair, run_answers::proofs::SourceLemmas::bytes_answer, run_answers::proofs::SourceLemmas::unreadable_answers))]
 pub(crate) fn picture_answer<S: Source>(alloc: Global, dial: Dial, src: &mut S) -> Answer
-    ensures answer { AnswersSource dossier_limit (AnswersPicture dial) (drained (S.left src.old) (S.left src.new) (S.faults src.old) (S.faults src.new)) result.status (bytes_in result.text) }
+    ensures answer { AnswersSource dossier_limit (AnswersPicture dial) (drained S.left S.faults src.old src.new) result.status (bytes_in result.text) }
 {
     match read_source(alloc, src, DOSSIER_LIMIT) {
         Ok(bytes) => text_answer(alloc, dial, bytes.as_slice()),

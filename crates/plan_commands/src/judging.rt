@@ -83,7 +83,7 @@ fn text_answer(alloc: Global, bytes: &[u8]) -> Answer
 #[inline(never)]
 #[tactic(auto, using(crate::proofs::AnswerLemmas::judge_fair, run_answers::proofs::SourceLemmas::bytes_answer, run_answers::proofs::SourceLemmas::unreadable_answers))]
 pub fn judge_answer<S: Source>(alloc: Global, src: &mut S) -> Answer
-    ensures answer { AnswersSource plan_limit AnswersJudge (drained (S.left src.old) (S.left src.new) (S.faults src.old) (S.faults src.new)) result.status (bytes_in result.text) }
+    ensures answer { AnswersSource plan_limit AnswersJudge (drained S.left S.faults src.old src.new) result.status (bytes_in result.text) }
 {
     match read_source(alloc, src, PLAN_LIMIT) {
         Ok(bytes) => text_answer(alloc, bytes.as_slice()),

@@ -117,7 +117,7 @@ pub fn replan_answer<R: Threads + Wait + Sync, S: Source, G: Gate + Sync>(
     gate: &G,
 ) -> Answer
     requires { AreReplanNumbers options.now }
-    ensures answer { AnswersSource plan_limit (AnswersReplan options.now) (drained (S.left src.old) (S.left src.new) (S.faults src.old) (S.faults src.new)) result.status (bytes_in result.text) }
+    ensures answer { AnswersSource plan_limit (AnswersReplan options.now) (drained S.left S.faults src.old src.new) result.status (bytes_in result.text) }
 {
     match read_source(alloc, src, PLAN_LIMIT) {
         Ok(bytes) => text_answer(rt, alloc, bytes.as_slice(), options, gate),

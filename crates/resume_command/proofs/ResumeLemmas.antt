@@ -10,8 +10,8 @@ use Rattle.run_answers.specs.Sources.{IsFair}
 use Rattle.run_answers.proofs.EndedLemmas.{refused_ended}
 use Rattle.run_answers.specs.declared.status.Status.{Status}
 use Rattle.run_answers.specs.declared.status.Status.TheVariants.{Good, Open, Words, Refused, ReadFault, WriteFault, NoMemory, BadDossier, Unfit, PlanRefused}
-use Rattle.solve_commands.specs.Searching.{Search, Ended, PrintsBest, AnswersSearch}
-use Rattle.solve_commands.specs.Keeping.{PrintsLeft}
+use Rattle.solve_commands.specs.Searching.{Search, Ended}
+use Rattle.solve_commands.specs.Keeping.{AnswersOptions}
 use Rattle.checked_dossiers.specs.Standing.{IsStanding, IsNoStanding}
 use Rattle.resume_command.specs.Resuming.{search_on, ResumesBest, ResumesOpen, AnswersResume}
 
@@ -30,7 +30,7 @@ ended_within k e =
     let opening = e.well.opening in
     omega (arith, best, opening)
 
-pub search_resumes : (options : SolveOptions) (bytes : List ℕ) (I : Instance) (C : Certificate) (s : Status) (text : List ℕ) → IsStanding bytes I C → AnswersSearch (PrintsBest options.dossier) (PrintsLeft options.keep) (search_on options I C) s text → AnswersResume options bytes s text
+pub search_resumes : (options : SolveOptions) (bytes : List ℕ) (I : Instance) (C : Certificate) (s : Status) (text : List ℕ) → IsStanding bytes I C → AnswersOptions options (search_on options I C) s text → AnswersResume options bytes s text
 search_resumes options bytes I C Good text standing answer = record { instance = I; certificate = C; standing = standing; within = cheapest_within I C standing.stands; best = answer }
 search_resumes options bytes I C Open text standing answer = record { instance = I; certificate = C; standing = standing; within = ended_within (search_on options I C); left = answer }
 search_resumes options bytes I C Words text standing answer = answer

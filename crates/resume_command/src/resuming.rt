@@ -7,8 +7,7 @@ ghost use Rattle.certificate_rules.specs.Certificates.{Stands};
 ghost use Rattle.run_answers.specs.Sources.{AnswersSource, drained};
 ghost use Rattle.run_answers.specs.Written.{bytes_in};
 ghost use Rattle.solve_commands.specs.Options.{AreSolveNumbers};
-ghost use Rattle.solve_commands.specs.Searching.{PrintsBest, AnswersSearch};
-ghost use Rattle.solve_commands.specs.Keeping.{PrintsLeft};
+ghost use Rattle.solve_commands.specs.Keeping.{AnswersOptions};
 ghost use Rattle.checked_dossiers.specs.Refused.{dossier_limit};
 ghost use Rattle.checked_dossiers.specs.Standing.{IsStanding};
 ghost use Rattle.resume_command.specs.Resuming.{budget_of, search_for, AnswersResume};
@@ -94,7 +93,7 @@ fn search_answer<R: Threads + Wait + Sync, G: Gate + Sync>(
 ) -> Answer
     requires stands { Stands case.now.instance certificate.now }
     requires numbers { AreSolveNumbers options.now }
-    ensures { AnswersSearch (PrintsBest options.now.dossier) (PrintsLeft options.now.keep) (search_for case.now certificate.now.cost) result.status (bytes_in result.text) }
+    ensures { AnswersOptions options.now (search_for case.now certificate.now.cost) result.status (bytes_in result.text) }
 {
     let cuts = match own_cuts(alloc, &case.instance, certificate.cuts.as_slice()) {
         Ok(cuts) => cuts,
@@ -166,7 +165,7 @@ pub fn resume_answer<R: Threads + Wait + Sync, S: Source, G: Gate + Sync>(
     gate: &G,
 ) -> Answer
     requires { AreSolveNumbers options.now }
-    ensures answer { AnswersSource dossier_limit (AnswersResume options.now) (drained (S.left src.old) (S.left src.new) (S.faults src.old) (S.faults src.new)) result.status (bytes_in result.text) }
+    ensures answer { AnswersSource dossier_limit (AnswersResume options.now) (drained S.left S.faults src.old src.new) result.status (bytes_in result.text) }
 {
     match read_source(alloc, src, DOSSIER_LIMIT) {
         Ok(bytes) => dossier_answer(rt, alloc, bytes.as_slice(), options, gate),

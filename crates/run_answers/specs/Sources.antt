@@ -13,8 +13,9 @@ pub record Drained : Type 0 where
   pub faults : ℕ
   pub faults_after : ℕ
 
-abbrev pub drained : Option (List ℕ) → Option (List ℕ) → ℕ → ℕ → Drained
-drained before after faults faults_after = record { before = before; after = after; faults = faults; faults_after = faults_after }
+-- the same, by what sources of a type tell: the bytes that are left, and the count of faults
+abbrev pub drained : {Src : Type 0} → (Src → Option (List ℕ)) → (Src → ℕ) → Src → Src → Drained
+drained left faults old new = record { before = left old; after = left new; faults = faults old; faults_after = faults new }
 
 -- the most bytes of an instance and a plan together
 abbrev pub plan_limit : ℕ

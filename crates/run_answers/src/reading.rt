@@ -28,8 +28,8 @@ fn too_long(alloc: Global, most: u64) -> Answer
 /// stack of the whole run.
 #[inline(never)]
 pub fn read_source<S: Source>(alloc: Global, src: &mut S, most: u64) -> Result<Vec<u8>, Answer>
-    ensures read { IfOk result (λ bytes. IsReadWhole most (drained (S.left src.old) (S.left src.new) (S.faults src.old) (S.faults src.new)) bytes.items) }
-    ensures refused { IfErr result (λ answer. IsUnreadable most (drained (S.left src.old) (S.left src.new) (S.faults src.old) (S.faults src.new)) answer.status (bytes_in answer.text)) }
+    ensures read { IfOk result (λ bytes. IsReadWhole most (drained S.left S.faults src.old src.new) bytes.items) }
+    ensures refused { IfErr result (λ answer. IsUnreadable most (drained S.left S.faults src.old src.new) answer.status (bytes_in answer.text)) }
 {
     match read_all(alloc, src, most) {
         Ok(bytes) => Ok(bytes),

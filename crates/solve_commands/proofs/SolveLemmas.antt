@@ -6,12 +6,11 @@ use Rattle.command_words.specs.declared.commands.SolveOptions.{SolveOptions}
 use Rattle.run_answers.specs.Sources.{IsFair}
 use Rattle.run_answers.specs.declared.status.Status.{Status}
 use Rattle.run_answers.specs.declared.status.Status.TheVariants.{Good, Open, Words, Refused, ReadFault, WriteFault, NoMemory, BadDossier, Unfit, PlanRefused}
-use Rattle.solve_commands.specs.Searching.{PrintsBest, AnswersSearch}
-use Rattle.solve_commands.specs.Keeping.{PrintsLeft}
+use Rattle.solve_commands.specs.Keeping.{AnswersOptions}
 use Rattle.solve_commands.specs.Solving.{search_of, AnswersInstance, AnswersSolve}
 
 -- what is answered at the end of a search is answered to the instance
-pub search_answers : (options : SolveOptions) (I : Instance) (status : Status) (text : List ℕ) → AnswersSearch (PrintsBest options.dossier) (PrintsLeft options.keep) (search_of options.nodes options.turns I) status text → AnswersInstance options I status text
+pub search_answers : (options : SolveOptions) (I : Instance) (status : Status) (text : List ℕ) → AnswersOptions options (search_of options.nodes options.turns I) status text → AnswersInstance options I status text
 search_answers options I Good text answer = answer
 search_answers options I Open text answer = answer
 search_answers options I Words text answer = absurd answer

@@ -10,7 +10,9 @@ use Rattle.certificate_rules.specs.Certificates.{Certificate, Stands}
 use Rattle.certificate_rules.specs.WellFormed.{IsWellFormed}
 use Rattle.cert_text.specs.Dossier.{dossier, Reads}
 use Rattle.plan_print.specs.Report.{report}
-use Rattle.solve_commands.specs.Searching.{Search, Ended, PrintsOpen}
+use Rattle.command_words.specs.declared.commands.SolveOptions.{SolveOptions}
+use Rattle.run_answers.specs.declared.status.Status.{Status}
+use Rattle.solve_commands.specs.Searching.{Search, Ended, PrintsBest, PrintsOpen, AnswersSearch}
 use Rattle.cert_text.specs.declared.heading.Form.TheVariants as form
 
 -- More nodes than the search may use have a bound below its limit, and the certificate has more marks than these.
@@ -48,3 +50,7 @@ pub record PrintsKept (k : Search) (text : List ℕ) : Type 0 where
 abbrev pub PrintsLeft : Bool → Search → List ℕ → Type 0
 PrintsLeft true k text = PrintsKept k text
 PrintsLeft false k text = PrintsOpen report k text
+
+-- What is answered at the end of a search to the options: the dossier or the report of a cheapest plan, the open dossier or the report of one left open.
+abbrev pub AnswersOptions : SolveOptions → Search → Status → List ℕ → Type 0
+AnswersOptions options k status text = AnswersSearch (PrintsBest options.dossier) (PrintsLeft options.keep) k status text

@@ -108,3 +108,7 @@ AnswersSearch Best Left k NoMemory text = text ≡ no_memory_text
 AnswersSearch Best Left k BadDossier text = ⊥
 AnswersSearch Best Left k Unfit text = ⊥
 AnswersSearch Best Left k PlanRefused text = ⊥
+
+-- the same where one print is of both: a cheapest plan as optimal, and one left open with its verdict
+abbrev pub AnswersPrinted : Print → Search → Status → List ℕ → Type 0
+AnswersPrinted print k status text = AnswersSearch (PrintsOptimal print) (PrintsOpen print) k status text

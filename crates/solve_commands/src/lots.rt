@@ -31,7 +31,7 @@ fn lot_of(options: &LotOptions) -> Instance
 #[inline(never)]
 pub fn lot_answer(alloc: Global, options: &LotOptions) -> Answer
     requires { AreLotNumbers options.now }
-    ensures { AnswersLot options.now.number options.now.ships options.now.chambers result.status (bytes_in result.text) }
+    ensures { AnswersLot options.now result.status (bytes_in result.text) }
 {
     let instance = lot_of(options);
     match print_instance(alloc, &instance) {
@@ -53,7 +53,7 @@ pub fn trial_answer<R: Threads + Wait + Sync, G: Gate + Sync>(
     gate: &G,
 ) -> Answer
     requires { AreTrialNumbers options.now }
-    ensures { AnswersTrial options.now.lot.number options.now.lot.ships options.now.lot.chambers options.now.nodes options.now.turns result.status (bytes_in result.text) }
+    ensures { AnswersTrial options.now result.status (bytes_in result.text) }
 {
     let case = Case::new(lot_of(&options.lot), options.nodes, options.turns);
     search_line(rt, alloc, &case, gate)

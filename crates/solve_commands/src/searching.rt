@@ -7,8 +7,8 @@ ghost use Rattle.book_rules.specs.Verdict.{verdict_of};
 ghost use Rattle.certificate_rules.specs.WellFormed.{IsWellFormed};
 ghost use Rattle.plan_print.specs.Report.{IsOfInstance, report, verdict_line};
 ghost use Rattle.solve_commands.specs.Options.{AreSolveNumbers};
-ghost use Rattle.solve_commands.specs.Searching.{PrintsOptimal, PrintsDossier, PrintsBest, PrintsOpen, NoBest, NoLeft, AnswersSearch, search_in, status_of};
-ghost use Rattle.solve_commands.specs.Keeping.{PrintsLeft};
+ghost use Rattle.solve_commands.specs.Searching.{PrintsDossier, PrintsBest, NoBest, NoLeft, AnswersSearch, AnswersPrinted, search_in, status_of};
+ghost use Rattle.solve_commands.specs.Keeping.{PrintsLeft, AnswersOptions};
 ghost use Rattle.solve_commands.specs.Solving.{search_of};
 ghost use Rattle.run_answers.specs.Written.{bytes_in};
 
@@ -57,7 +57,7 @@ pub fn report_answer(alloc: Global, book: &Book) -> Answer
     requires { EndsWell limit book.now }
     ensures best { verdict_of book.now ≡ Optimal → result.status ≢ Status.Open }
     ensures left { verdict_of book.now ≢ Optimal → result.status ≢ Status.Good }
-    ensures answer { AnswersSearch (PrintsOptimal report) (PrintsOpen report) (search_in book.now limit) result.status (bytes_in result.text) }
+    ensures answer { AnswersPrinted report (search_in book.now limit) result.status (bytes_in result.text) }
 {
     book.keeps();
     let verdict = shown(book);
@@ -75,7 +75,7 @@ pub fn report_answer(alloc: Global, book: &Book) -> Answer
 fn line_answer(alloc: Global, book: &Book) -> Answer
     ghost limit: { ℕ }
     requires { EndsWell limit book.now }
-    ensures { AnswersSearch (PrintsOptimal verdict_line) (PrintsOpen verdict_line) (search_in book.now limit) result.status (bytes_in result.text) }
+    ensures { AnswersPrinted verdict_line (search_in book.now limit) result.status (bytes_in result.text) }
 {
     book.keeps();
     let verdict = shown(book);
@@ -187,7 +187,7 @@ pub(crate) fn search_best<R: Threads + Wait + Sync, G: Gate + Sync>(
     gate: &G,
 ) -> Answer
     requires { AreSolveNumbers options.now }
-    ensures { AnswersSearch (PrintsBest options.now.dossier) (PrintsLeft options.now.keep) (search_of case.now.nodes case.now.turns case.now.instance) result.status (bytes_in result.text) }
+    ensures { AnswersOptions options.now (search_of case.now.nodes case.now.turns case.now.instance) result.status (bytes_in result.text) }
 {
     match solve(rt, alloc, case, options.workers, gate) {
         Ok(solved) => best_answer(alloc, &*solved.book, options.dossier, options.keep),
@@ -203,7 +203,7 @@ pub(crate) fn search_line<R: Threads + Wait + Sync, G: Gate + Sync>(
     case: &Case,
     gate: &G,
 ) -> Answer
-    ensures { AnswersSearch (PrintsOptimal verdict_line) (PrintsOpen verdict_line) (search_of case.now.nodes case.now.turns case.now.instance) result.status (bytes_in result.text) }
+    ensures { AnswersPrinted verdict_line (search_of case.now.nodes case.now.turns case.now.instance) result.status (bytes_in result.text) }
 {
     match solve(rt, alloc, case, 1, gate) {
         Ok(solved) => line_answer(alloc, &*solved.book),

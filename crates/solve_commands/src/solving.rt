@@ -5,8 +5,7 @@ ghost use Rattle.instance_text.specs.Reading.{Defect};
 ghost use Rattle.run_answers.specs.Sources.{AnswersSource, drained};
 ghost use Rattle.run_answers.specs.Written.{bytes_in};
 ghost use Rattle.solve_commands.specs.Options.{AreSolveNumbers};
-ghost use Rattle.solve_commands.specs.Searching.{PrintsBest, AnswersSearch};
-ghost use Rattle.solve_commands.specs.Keeping.{PrintsLeft};
+ghost use Rattle.solve_commands.specs.Keeping.{AnswersOptions};
 ghost use Rattle.solve_commands.specs.Solving.{solve_limit, search_of, AnswersInstance, AnswersSolve};
 
 use crate::searching::search_best;
@@ -50,7 +49,7 @@ fn fit_answer<R: Threads + Wait + Sync, G: Gate + Sync>(
 ) -> Answer
     requires fit { HasNoUnfit instance }
     requires numbers { AreSolveNumbers options.now }
-    ensures { AnswersSearch (PrintsBest options.now.dossier) (PrintsLeft options.now.keep) (search_of options.now.nodes options.now.turns instance) result.status (bytes_in result.text) }
+    ensures { AnswersOptions options.now (search_of options.now.nodes options.now.turns instance) result.status (bytes_in result.text) }
 {
     let case = Case::new(instance, options.nodes, options.turns);
     search_best(rt, alloc, &case, options, gate)
@@ -120,7 +119,7 @@ pub fn solve_answer<R: Threads + Wait + Sync, S: Source, G: Gate + Sync>(
     gate: &G,
 ) -> Answer
     requires { AreSolveNumbers options.now }
-    ensures answer { AnswersSource solve_limit (AnswersSolve options.now) (drained (S.left src.old) (S.left src.new) (S.faults src.old) (S.faults src.new)) result.status (bytes_in result.text) }
+    ensures answer { AnswersSource solve_limit (AnswersSolve options.now) (drained S.left S.faults src.old src.new) result.status (bytes_in result.text) }
 {
     match read_source(alloc, src, LIMIT) {
         Ok(bytes) => text_answer(rt, alloc, bytes.as_slice(), options, gate),

@@ -8,6 +8,6 @@ use Rattle.lock_top.proofs.top.run.Goals as goal
 
 pub returns-in-Ok : goal.returns-in-Ok
 returns-in-Ok g c =
-    keeps_written (map string_bytes c.args.words.now) (drained _ _ _ _) (filled (g.K.Sink.held c.args.out.now) (g.K.Sink.held c.write_all_of.new.out) (g.K.Sink.faults c.args.out.now) (g.K.Sink.faults c.write_all_of.new.out))
+    keeps_written (map string_bytes c.args.words.now) (drained g.S.Source.left g.S.Source.faults c.args.src.now c.words_answer-answer.new.src) (filled g.K.Sink.held g.K.Sink.faults c.args.out.now c.write_all_of.new.out)
     c.words_answer-answer.result.status (bytes_in c.words_answer-answer.result.text) c.words_answer-answer.ensures.answer
     (subst (Appends (g.K.Sink.held c.args.out.now) (g.K.Sink.held c.write_all_of.new.out)) c.as_slice.ensures c.in-Ok.ensures.all)
