@@ -41,7 +41,7 @@ lane_title clock count c =
     ++ flat_map (closed_text clock) c.closures ++ filled (codes "</title><use href=\"#G\"/>") []
 
 -- a ship's name after a comma
-abbrev pub next_name : Instance → ℕ → List ℕ
+unfoldable pub next_name : Instance → ℕ → List ℕ
 next_name I s = codes ", " ++ (ship_at I s).name
 
 -- the names of ships

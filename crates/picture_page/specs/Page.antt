@@ -49,23 +49,16 @@ bound_words (Open low) = low_words low
 unfoldable pub verdict : Known → ℕ → List ℕ
 verdict known cost = known_word known ++ codes ", total flow time " ++ count_text cost (codes "minute") ++ bound_words known
 
--- the style sheet
-unfoldable pub style_sheet : List ℕ
-style_sheet = filled STYLE.now []
-
--- what it has besides where the page shows the minute that it is
-unfoldable pub present_rules : List ℕ
-present_rules = filled PRESENT_STYLE.now []
-
+-- what the style sheet has besides where the page shows the minute that it is
 abbrev pub present_style : Option ℕ → List ℕ
 present_style None = []
-present_style (Some minute) = present_rules
+present_style (Some minute) = filled PRESENT_STYLE.now []
 
 -- the head of the page, with its style sheet
 unfoldable pub page_head : Option ℕ → Known → ℕ → List ℕ
 page_head present known cost =
     filled (codes "<!DOCTYPE html>\n<html lang=\"en\">\n<head>\n<meta charset=\"utf-8\">\n<meta name=\"viewport\" content=\"width=device-width,initial-scale=1\">\n<title>glock: ") []
-    ++ verdict known cost ++ filled (codes "</title>\n<style>") [] ++ style_sheet ++ present_style present
+    ++ verdict known cost ++ filled (codes "</title>\n<style>") [] ++ filled STYLE.now [] ++ present_style present
     ++ filled (codes "</style>\n</head>\n<body>\n<main>\n") []
 
 -- the least and the greatest of some events
@@ -91,12 +84,15 @@ heading known cost =
     filled (codes "<h1>") [] ++ verdict known cost ++ filled (codes "</h1>\n<p class=\"sub\">") [] ++ known_meaning known
     ++ filled (codes " Flow time is from a ship&#8217;s arrival to the end of its lockage; flow times and waits are in minutes.</p>\n<p class=\"sub\">") []
 
+-- so many things of a name, after a dot
+abbrev pub next_count : ℕ → List ℕ → List ℕ
+next_count n name = filled (codes " &#183; ") [] ++ count_text n name
+
 -- what a page of so many lockages shows
 unfoldable pub summary : Clock → Instance → ℕ → List ℕ → List ℕ
 summary clock I lockages events =
-    event_span clock events ++ filled (codes " &#183; ") [] ++ count_text (length I.ships) (codes "ship")
-    ++ filled (codes " &#183; ") [] ++ count_text lockages (codes "lockage") ++ filled (codes " &#183; ") []
-    ++ count_text (length I.chambers) (codes "chamber") ++ filled (codes "</p>\n") []
+    event_span clock events ++ next_count (length I.ships) (codes "ship") ++ next_count lockages (codes "lockage")
+    ++ next_count (length I.chambers) (codes "chamber") ++ filled (codes "</p>\n") []
 
 -- the timetable: chambers and ships along one axis
 unfoldable pub timetable : Instance → Drawn → List Passage → ℕ → List ℕ

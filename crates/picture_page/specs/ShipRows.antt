@@ -48,6 +48,11 @@ row_number number r end =
     if nat_le (r.from + 7 * digits_of number + 14) r.to then (filled (codes "<text class=\"n3\" x=\"%\" y=\"12\">%</text>") (stretch_middle r ∷ number ∷ []))
     else (filled (codes "<text class=\"n4\" x=\"%\" y=\"12\">%</text>") ((end + 4) ∷ number ∷ []))
 
+-- the breaks of a row, the line at the minute that it is, and an arrival at a pixel
+abbrev pub row_marks : Drawn → ℕ → List ℕ
+row_marks axis here =
+    filled (codes "<use href=\"#t\"/>") [] ++ present_line (present_x axis) 16 ++ filled (codes "<circle class=\"m\" cx=\"%\" cy=\"8\" r=\"4\"/>") (here ∷ [])
+
 -- the picture of an arrival, the wait after it, and a passage
 unfoldable pub row_picture : Drawn → ℕ → Passage → List ℕ
 row_picture axis arrival p =

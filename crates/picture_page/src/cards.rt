@@ -13,7 +13,7 @@ use crate::passage::Passage;
 use crate::scales::{DeckScale, deck_scale};
 use crate::shapes::{put_arrow, put_cargo};
 use crate::ties::put_ties;
-use crate::times::{Clock, put_time};
+use crate::times::{Clock, put_time_after};
 use crate::waters::{drawn, put_feet, put_waters};
 use crate::words::{put_measures, put_metres};
 use crate::writing::put_writing;
@@ -43,10 +43,8 @@ fn put_head_words(out: &mut Vec<u8>, name: &[u8], passage: &Passage) -> Result<(
 fn put_head_times(out: &mut Vec<u8>, clock: Clock, passage: &Passage) -> Result<(), NoMemory>
     ensures { OnOk result (out.new.items ≡ out.old.items ++ head_times clock passage.now) }
 {
-    put_form(out, b"</strong></span><span>", &[])?;
-    put_time(out, clock, passage.start as u64)?;
-    put_form(out, b" &#8211; ", &[])?;
-    put_time(out, clock, passage.end())?;
+    put_time_after(out, b"</strong></span><span>", clock, passage.start as u64)?;
+    put_time_after(out, b" &#8211; ", clock, passage.end())?;
     put_form(out, b"</span></h3>\n", &[])
 }
 

@@ -1,5 +1,5 @@
 //! Texts with numbers in the places of their `%` signs.
-ghost use Rattle.std.specs.Prelude.{[], ◌≡◌, ◌++◌, OnOk};
+ghost use Rattle.std.specs.Prelude.{[], ◌≡◌, ◌++◌, OnOk, decimal};
 ghost use Rattle.picture_page.specs.Forms.{filled};
 
 use no_memory::NoMemory;
@@ -38,5 +38,19 @@ pub(crate) fn put_between(
 {
     put_form(out, before, &[])?;
     put(out, text)?;
+    put_form(out, after, &[])
+}
+
+/// Appends a number in decimal between two texts.
+pub(crate) fn put_number_between(
+    out: &mut Vec<u8>,
+    before: &[u8],
+    number: u64,
+    after: &[u8],
+) -> Result<(), NoMemory>
+    ensures { OnOk result (out.new.items ≡ out.old.items ++ (filled before.now [] ++ decimal number ++ filled after.now [])) }
+{
+    put_form(out, before, &[])?;
+    put_number(out, number)?;
     put_form(out, after, &[])
 }

@@ -1,10 +1,10 @@
 //! The head and the heading of a page.
 ghost use Rattle.std.specs.Prelude.{◌≡◌, ◌++◌, OnOk};
 ghost use Rattle.picture_page.specs.Page.{known_word, known_meaning, low_words, bound_words, verdict, page_head};
-ghost use Rattle.picture_page.specs.Page.{least_of, greatest_of, span_word, event_span, heading, summary};
+ghost use Rattle.picture_page.specs.Page.{least_of, greatest_of, span_word, event_span, heading, next_count, summary};
 
 use crate::form::put_form;
-use crate::style::{put_present_style, put_style};
+use crate::style::{STYLE, put_present_style};
 use crate::times::{Clock, put_time};
 use crate::words::put_count;
 use lock_model::Instance;
@@ -12,7 +12,7 @@ use no_memory::NoMemory;
 use plain_text::put;
 
 /// What is known of a plan.
-#[derive(Clone, Copy, PartialEq, Eq)]
+#[derive(Clone, Copy)]
 pub enum Known {
     /// It is legal.
     Legal,
@@ -96,7 +96,7 @@ pub(crate) fn put_page_head(
     )?;
     put_verdict(out, known, cost)?;
     put_form(out, b"</title>\n<style>", &[])?;
-    put_style(out)?;
+    put_form(out, STYLE, &[])?;
     put_present_style(out, present)?;
     put_form(out, b"</style>\n</head>\n<body>\n<main>\n", &[])
 }
@@ -158,6 +158,14 @@ pub(crate) fn put_heading(out: &mut Vec<u8>, known: Known, cost: u64) -> Result<
     )
 }
 
+/// Appends a count of things that have this name, after a dot.
+fn put_next_count(out: &mut Vec<u8>, count: u64, name: &[u8]) -> Result<(), NoMemory>
+    ensures { OnOk result (out.new.items ≡ out.old.items ++ next_count count name.now) }
+{
+    put_form(out, b" &#183; ", &[])?;
+    put_count(out, count, name)
+}
+
 /// Appends what a page of so many lockages shows.
 #[tactic(auto, unfolding(crate::specs::Page::summary))]
 pub(crate) fn put_summary(
@@ -170,11 +178,8 @@ pub(crate) fn put_summary(
     ensures { OnOk result (out.new.items ≡ out.old.items ++ summary clock instance.now lockages events.now) }
 {
     put_event_span(out, clock, events)?;
-    put_form(out, b" &#183; ", &[])?;
-    put_count(out, instance.ships.as_slice().len() as u64, b"ship")?;
-    put_form(out, b" &#183; ", &[])?;
-    put_count(out, lockages, b"lockage")?;
-    put_form(out, b" &#183; ", &[])?;
-    put_count(out, instance.chambers.as_slice().len() as u64, b"chamber")?;
+    put_next_count(out, instance.ships.as_slice().len() as u64, b"ship")?;
+    put_next_count(out, lockages, b"lockage")?;
+    put_next_count(out, instance.chambers.as_slice().len() as u64, b"chamber")?;
     put_form(out, b"</p>\n", &[])
 }

@@ -8,7 +8,7 @@ ghost use Rattle.picture_page.specs.Lanes.{begun_word, box_title, begun_frame, l
 ghost use Rattle.picture_page.specs.Lanes.{lane_ground, lane_words, lane_end, lane, lane_at, lanes, chambers_table};
 
 use crate::axis::Axis;
-use crate::form::{put_between, put_form};
+use crate::form::{put_between, put_form, put_number_between};
 use crate::ground::{put_closures, put_ground, put_opening, put_span};
 use crate::labels::{are_wide, put_labels, put_opens};
 use crate::passage::Passage;
@@ -17,11 +17,11 @@ use crate::present::put_present_line;
 use crate::shapes::{put_frame, put_passage_box};
 use crate::times::{Clock, put_time};
 use crate::water::put_water;
-use crate::words::{put_count, put_measures, put_plural};
+use crate::words::{put_count, put_measures, put_plural_between};
 use instance_text::{stand_word, way_word};
 use lock_model::{Chamber, Closures, Instance};
 use no_memory::NoMemory;
-use plain_text::{put, put_number};
+use plain_text::put;
 use std::alloc::Global;
 
 /// Appends the axis in the head of a table, with room for a flag above it where the page shows the
@@ -100,14 +100,23 @@ fn name_of(instance: &Instance, ship: u8) -> &[u8]
     instance.ships.as_slice()[ship as usize].name.as_slice()
 }
 
+/// Appends the name of a ship after a comma.
+#[tactic(auto, unfolding(crate::specs::Lanes::next_name))]
+fn put_next_name(out: &mut Vec<u8>, instance: &Instance, ship: u8) -> Result<(), NoMemory>
+    requires { ship < length instance.now.ships }
+    ensures { OnOk result (out.new.items ≡ out.old.items ++ next_name instance.now ship) }
+{
+    put(out, b", ")?;
+    put(out, name_of(instance, ship))
+}
+
 /// Appends the names of ships, each after a comma.
 fn put_next_names(out: &mut Vec<u8>, instance: &Instance, ships: &[u8]) -> Result<(), NoMemory>
     requires { All (λ s. s < length instance.now.ships) ships.now }
     ensures { OnOk result (out.new.items ≡ out.old.items ++ flat_map (next_name instance.now) ships.now) }
 {
     for &ship in ships {
-        put(out, b", ")?;
-        put(out, name_of(instance, ship))?;
+        put_next_name(out, instance, ship)?;
     }
     Ok(())
 }
@@ -241,9 +250,12 @@ fn put_lane_words(
 {
     put_labels(out, axis, wide, 0, line)?;
     put_opens(out, axis, chamber.opens as u64)?;
-    put_form(out, b"</svg></td><td class=\"r\">", &[])?;
-    put_number(out, line.len() as u64)?;
-    put_form(out, b"</td></tr>\n", &[])
+    put_number_between(
+        out,
+        b"</svg></td><td class=\"r\">",
+        line.len() as u64,
+        b"</td></tr>\n",
+    )
 }
 
 /// Appends the breaks of a lane, the line at the minute that it is, and what stands on them.
@@ -333,13 +345,12 @@ pub(crate) fn put_chambers(
     requires { All (HasShips instance.now) passages.now }
     ensures { OnOk result (out.new.items ≡ out.old.items ++ chambers_table instance.now axis.now passages.now) }
 {
-    put_form(
+    put_plural_between(
         out,
         b"<table class=\"t\" aria-label=\"chambers by time\">\n<thead><tr><th scope=\"col\">chamber",
-        &[],
+        instance.chambers.as_slice().len() as u64,
+        b"</th><td class=\"ax\">",
     )?;
-    put_plural(out, instance.chambers.as_slice().len() as u64)?;
-    put_form(out, b"</th><td class=\"ax\">", &[])?;
     put_axis(out, axis)?;
     put_form(
         out,

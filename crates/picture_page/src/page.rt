@@ -3,7 +3,9 @@ ghost use Rattle.std.specs.Prelude.{◌≡◌, ◌≤◌, ◌<◌, ◌++◌, len
 ghost use Rattle.lock_rules.specs.Plan.{IsLegal};
 ghost use Rattle.picture_page.specs.Passages.{IsKnownGo};
 ghost use Rattle.picture_page.specs.KnownPassages.{AreKnown, HasChamber, HasShips, IsKnown};
-ghost use Rattle.picture_page.specs.Page.{timetable, decks, page_on, page_with, picture};
+ghost use Rattle.picture_page.specs.Shared.{shared};
+ghost use Rattle.picture_page.specs.Ticks.{ticks_of};
+ghost use Rattle.picture_page.specs.Page.{page_head, heading, timetable, decks, page_on, page_with, picture};
 
 use crate::axis::Axis;
 use crate::cards::put_cards;
@@ -18,12 +20,29 @@ use crate::shared::put_shared;
 use crate::ship_rows::put_ships;
 use crate::ticks::ticks_of;
 use crate::times::{Clock, Dial};
-use crate::words::put_plural;
+use crate::words::put_plural_between;
 use chamber_times::cost;
 use day_play::{BEATS, Beat};
 use lock_model::{Instance, Plan};
 use no_memory::NoMemory;
 use std::alloc::Global;
+
+/// Appends the head of the page, the shapes that the rows share, and the heading.
+fn put_opening(
+    alloc: Global,
+    out: &mut Vec<u8>,
+    present: Option<u32>,
+    known: Known,
+    cost: u64,
+    axis: &Axis,
+) -> Result<(), NoMemory>
+    ensures { OnOk result (out.new.items ≡ out.old.items ++ (page_head present known cost ++ shared axis.now (ticks_of axis.now) ++ heading known cost)) }
+{
+    let ticks = ticks_of(alloc, axis)?;
+    put_page_head(out, present, known, cost)?;
+    put_shared(out, axis, ticks.as_slice())?;
+    put_heading(out, known, cost)
+}
 
 /// Appends the chambers and the ships along one axis.
 #[tactic(auto, unfolding(crate::specs::Page::timetable))]
@@ -62,12 +81,11 @@ fn put_decks(
     requires { All (IsKnown instance.now plan.now) passages.now }
     ensures { OnOk result (out.new.items ≡ out.old.items ++ decks instance.now plan.now clock passages.now) }
 {
-    put_form(out, b"<h2>deck plan", &[])?;
-    put_plural(out, passages.len() as u64)?;
-    put_form(
+    put_plural_between(
         out,
+        b"<h2>deck plan",
+        passages.len() as u64,
         b"</h2>\n<p class=\"sub\">Each deck numbers its ships in the order in which they come in.</p>\n<div class=\"cards\">\n",
-        &[],
     )?;
     put_cards(out, instance, plan, clock, passages)?;
     put_form(out, b"</div>\n</main>\n</body>\n</html>\n", &[])
@@ -90,11 +108,8 @@ fn page_with(
     let total = cost(instance, plan);
     let events = events_of(alloc, dial.present, instance, passages)?;
     let axis = Axis::new(alloc, dial, events.as_slice())?;
-    let ticks = ticks_of(alloc, &axis)?;
     let mut page = Vec::new(alloc);
-    put_page_head(&mut page, dial.present, known, total)?;
-    put_shared(&mut page, &axis, ticks.as_slice())?;
-    put_heading(&mut page, known, total)?;
+    put_opening(alloc, &mut page, dial.present, known, total, &axis)?;
     put_summary(
         &mut page,
         dial.clock,

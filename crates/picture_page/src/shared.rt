@@ -1,7 +1,8 @@
 //! The shapes that the rows share: arrows, grids, breaks and the axis.
 ghost use Rattle.std.specs.Prelude.{◌≡◌, ◌≤◌, ◌++◌, OnOk};
 ghost use Rattle.std.specs.List.{flat_map};
-ghost use Rattle.picture_page.specs.Shared.{signs, hatching, grid_line, grids, break_shape, break_at, torn, tick_label, tick_text, shared};
+ghost use Rattle.picture_page.specs.Shared.{axis_shape, shared};
+ghost use Rattle.picture_page.specs.Shared.{grid_line, grid, grids, break_shape, break_at, row_breaks, torn, tick_label, tick_text};
 
 use crate::axis::Axis;
 use crate::form::put_form;
@@ -11,44 +12,13 @@ use crate::times::{Clock, put_time};
 use no_memory::NoMemory;
 use plain_text::put;
 
-/// Appends the arrows and the mark of cargo.
-#[tactic(auto, unfolding(crate::specs::Shared::signs))]
-fn put_signs(out: &mut Vec<u8>) -> Result<(), NoMemory>
-    ensures { OnOk result (out.new.items ≡ out.old.items ++ signs) }
-{
-    put_form(
-        out,
-        b"<svg width=\"0\" height=\"0\" style=\"position:absolute\" aria-hidden=\"true\"><defs>\n",
-        &[],
-    )?;
-    put_form(
-        out,
-        b"<path id=\"u\" d=\"M4 0L9 5H6V11H3V5H0Z\"/><path id=\"d\" d=\"M4 11L9 6H6V0H3V6H0Z\"/>\n",
-        &[],
-    )?;
-    put_form(
-        out,
-        b"<path id=\"k\" class=\"kd\" d=\"M7 0L14 7L7 14L0 7Z\"/>\n",
-        &[],
-    )
-}
-
-/// Appends the hatching.
-#[tactic(auto, unfolding(crate::specs::Shared::hatching))]
-fn put_hatching(out: &mut Vec<u8>) -> Result<(), NoMemory>
-    ensures { OnOk result (out.new.items ≡ out.old.items ++ hatching) }
-{
-    put_form(
-        out,
-        b"<pattern id=\"z\" width=\"6\" height=\"6\" patternUnits=\"userSpaceOnUse\" patternTransform=\"rotate(45)\">",
-        &[],
-    )?;
-    put_form(
-        out,
-        b"<path d=\"M0 0H6V6H0Z\" fill=\"#fff\"/><path d=\"M1 0V6\" stroke=\"#5b6a77\" stroke-width=\"2\"/></pattern>\n",
-        &[],
-    )
-}
+/// The arrows up and down, the mark of cargo and the hatching.
+const SIGNS: &[u8] = b"\
+<svg width=\"0\" height=\"0\" style=\"position:absolute\" aria-hidden=\"true\"><defs>\n\
+<path id=\"u\" d=\"M4 0L9 5H6V11H3V5H0Z\"/><path id=\"d\" d=\"M4 11L9 6H6V0H3V6H0Z\"/>\n\
+<path id=\"k\" class=\"kd\" d=\"M7 0L14 7L7 14L0 7Z\"/>\n\
+<pattern id=\"z\" width=\"6\" height=\"6\" patternUnits=\"userSpaceOnUse\" patternTransform=\"rotate(45)\"><path d=\"M0 0H6V6H0Z\" fill=\"#fff\"/><path d=\"M1 0V6\" stroke=\"#5b6a77\" stroke-width=\"2\"/></pattern>\n\
+";
 
 /// Appends the grid line of a tick in a row so high.
 #[tactic(auto, unfolding(crate::specs::Shared::grid_line))]
@@ -68,16 +38,22 @@ fn put_grid_lines(out: &mut Vec<u8>, height: u64, ticks: &[Tick]) -> Result<(), 
     Ok(())
 }
 
+/// Appends a grid of rows so high, which begins with a text.
+fn put_grid(out: &mut Vec<u8>, head: &[u8], height: u64, ticks: &[Tick]) -> Result<(), NoMemory>
+    ensures { OnOk result (out.new.items ≡ out.old.items ++ grid head.now height ticks.now) }
+{
+    put_form(out, head, &[])?;
+    put_grid_lines(out, height, ticks)?;
+    put_form(out, b"</g>\n", &[])
+}
+
 /// Appends the grids of the rows.
 #[tactic(auto, unfolding(crate::specs::Shared::grids))]
 fn put_grids(out: &mut Vec<u8>, ticks: &[Tick]) -> Result<(), NoMemory>
     ensures { OnOk result (out.new.items ≡ out.old.items ++ grids ticks.now) }
 {
-    put(out, b"<g id=\"g\" class=\"g\">")?;
-    put_grid_lines(out, 16, ticks)?;
-    put(out, b"</g>\n<g id=\"G\" class=\"g\">")?;
-    put_grid_lines(out, 44, ticks)?;
-    put(out, b"</g>\n")
+    put_grid(out, b"<g id=\"g\" class=\"g\">", 16, ticks)?;
+    put_grid(out, b"<g id=\"G\" class=\"g\">", 44, ticks)
 }
 
 /// Appends a break between two heights.
@@ -137,18 +113,29 @@ fn put_break_shapes(out: &mut Vec<u8>, axis: &Axis, top: u64, bottom: u64) -> Re
     Ok(())
 }
 
+/// Appends the breaks of rows, which begin with a text.
+fn put_row_breaks(
+    out: &mut Vec<u8>,
+    axis: &Axis,
+    head: &[u8],
+    top: u64,
+    bottom: u64,
+) -> Result<(), NoMemory>
+    ensures { OnOk result (out.new.items ≡ out.old.items ++ row_breaks axis.now head.now top bottom) }
+{
+    put_form(out, head, &[])?;
+    put_break_shapes(out, axis, top, bottom)?;
+    put_form(out, b"</g>\n", &[])
+}
+
 /// Appends the breaks of the rows.
 #[tactic(auto, unfolding(crate::specs::Shared::torn))]
 fn put_torn(out: &mut Vec<u8>, axis: &Axis) -> Result<(), NoMemory>
     ensures { OnOk result (out.new.items ≡ out.old.items ++ torn axis.now) }
 {
-    put(out, b"<g id=\"t\">")?;
-    put_break_shapes(out, axis, 0, 16)?;
-    put(out, b"</g>\n<g id=\"T\">")?;
-    put_break_shapes(out, axis, 0, 44)?;
-    put(out, b"</g>\n<g id=\"A\">")?;
-    put_break_shapes(out, axis, 15, 22)?;
-    put(out, b"</g>\n")
+    put_row_breaks(out, axis, b"<g id=\"t\">", 0, 16)?;
+    put_row_breaks(out, axis, b"<g id=\"T\">", 0, 44)?;
+    put_row_breaks(out, axis, b"<g id=\"A\">", 15, 22)
 }
 
 /// Appends the label of a minute, where it has one.
@@ -193,17 +180,23 @@ fn put_tick_texts(out: &mut Vec<u8>, clock: Clock, ticks: &[Tick]) -> Result<(),
     Ok(())
 }
 
+/// Appends the axis with these ticks, and the end of the shapes.
+fn put_axis_shape(out: &mut Vec<u8>, clock: Clock, ticks: &[Tick]) -> Result<(), NoMemory>
+    ensures { OnOk result (out.new.items ≡ out.old.items ++ axis_shape clock ticks.now) }
+{
+    put_form(out, b"<g id=\"x\" class=\"x\">", &[])?;
+    put_tick_texts(out, clock, ticks)?;
+    put_form(out, b"</g>\n</defs></svg>\n", &[])
+}
+
 /// Appends the shapes that the rows share, for an axis with these ticks.
 #[tactic(auto, unfolding(crate::specs::Shared::shared))]
 pub(crate) fn put_shared(out: &mut Vec<u8>, axis: &Axis, ticks: &[Tick]) -> Result<(), NoMemory>
     ensures { OnOk result (out.new.items ≡ out.old.items ++ shared axis.now ticks.now) }
 {
-    put_signs(out)?;
-    put_hatching(out)?;
+    put_form(out, SIGNS, &[])?;
     put_grids(out, ticks)?;
     put_torn(out, axis)?;
     put_present_flag(out, axis)?;
-    put_form(out, b"<g id=\"x\" class=\"x\">", &[])?;
-    put_tick_texts(out, axis.clock(), ticks)?;
-    put_form(out, b"</g>\n</defs></svg>\n", &[])
+    put_axis_shape(out, axis.clock(), ticks)
 }

@@ -1,18 +1,18 @@
 //! The rows of the ships.
 ghost use Rattle.std.specs.Prelude.{◌≡◌, ◌<◌, ◌++◌, length, All, OnOk};
 ghost use Rattle.picture_page.specs.KnownPassages.{HasChamber};
-ghost use Rattle.picture_page.specs.ShipRows.{row_name, row_wait, row_span, row_passage, wait_line, row_number, row_picture, row};
+ghost use Rattle.picture_page.specs.ShipRows.{row_name, row_wait, row_span, row_passage, wait_line, row_number, row_marks, row_picture, row};
 ghost use Rattle.picture_page.specs.ShipRows.{row_among, rows, ships_table};
 
 use crate::axis::Axis;
-use crate::form::put_form;
+use crate::form::{put_form, put_number_between};
 use crate::lanes::{box_width, put_axis};
 use crate::passage::Passage;
 use crate::present::put_present_line;
 use crate::shapes::{put_arrow, put_cargo, put_passage_box};
 use crate::stretch::{Stretch, stretch_of};
-use crate::times::{Clock, put_time};
-use crate::words::put_plural;
+use crate::times::{Clock, put_time_after};
+use crate::words::put_plural_between;
 use lock_model::{Instance, Ship};
 use master_branch::arrival_order;
 use no_memory::NoMemory;
@@ -35,8 +35,7 @@ fn put_row_name(out: &mut Vec<u8>, ship: &Ship) -> Result<(), NoMemory>
 fn put_row_wait(out: &mut Vec<u8>, clock: Clock, ship: &Ship, start: u32) -> Result<(), NoMemory>
     ensures { OnOk result (out.new.items ≡ out.old.items ++ row_wait clock ship.now start) }
 {
-    put_form(out, b"<td class=\"v\">", &[])?;
-    put_time(out, clock, ship.arrival as u64)?;
+    put_time_after(out, b"<td class=\"v\">", clock, ship.arrival as u64)?;
     put_form(out, b"</td><td class=\"v\">", &[])?;
     put_number(out, start.saturating_sub(ship.arrival) as u64)
 }
@@ -46,10 +45,9 @@ fn put_row_wait(out: &mut Vec<u8>, clock: Clock, ship: &Ship, start: u32) -> Res
 fn put_row_span(out: &mut Vec<u8>, clock: Clock, passage: &Passage) -> Result<(), NoMemory>
     ensures { OnOk result (out.new.items ≡ out.old.items ++ row_span clock passage.now) }
 {
-    put_form(out, b"</td><td class=\"v\">", &[])?;
-    put_time(out, clock, passage.start as u64)?;
-    put_form(out, b"</td><td class=\"v\">", &[])?;
-    put_time(out, clock, passage.end())
+    let between = b"</td><td class=\"v\">";
+    put_time_after(out, between, clock, passage.start as u64)?;
+    put_time_after(out, between, clock, passage.end())
 }
 
 /// Appends which passage a ship takes, in a chamber of this name, with a link to its deck, and the grid.
@@ -113,6 +111,19 @@ fn put_row_number(
     }
 }
 
+/// Appends the breaks of a row, the line at the minute that it is, and an arrival at a pixel.
+fn put_row_marks(out: &mut Vec<u8>, axis: &Axis, here: u16) -> Result<(), NoMemory>
+    ensures { OnOk result (out.new.items ≡ out.old.items ++ row_marks axis.now here) }
+{
+    put_form(out, b"<use href=\"#t\"/>", &[])?;
+    put_present_line(out, axis, 16)?;
+    put_form(
+        out,
+        b"<circle class=\"m\" cx=\"%\" cy=\"8\" r=\"4\"/>",
+        &[here as u64],
+    )
+}
+
 /// Appends the picture of an arrival, the wait after it, and a passage.
 #[tactic(auto, unfolding(crate::specs::ShipRows::row_picture))]
 fn put_row_picture(
@@ -135,13 +146,7 @@ fn put_row_picture(
         2,
         14,
     )?;
-    put_form(out, b"<use href=\"#t\"/>", &[])?;
-    put_present_line(out, axis, 16)?;
-    put_form(
-        out,
-        b"<circle class=\"m\" cx=\"%\" cy=\"8\" r=\"4\"/>",
-        &[here as u64],
-    )?;
+    put_row_marks(out, axis, here)?;
     put_row_number(out, passage, &stretch_of(axis, passage), to)
 }
 
@@ -162,9 +167,8 @@ fn put_row(
     put_row_wait(out, axis.clock(), ship, passage.start)?;
     put_row_passage(out, axis.clock(), chamber.name.as_slice(), passage)?;
     put_row_picture(out, axis, ship.arrival, passage)?;
-    put_form(out, b"</svg></td><td class=\"r\">", &[])?;
-    put_number(out, passage.end().saturating_sub(ship.arrival as u64))?;
-    put_form(out, b"</td></tr>\n", &[])
+    let flow = passage.end().saturating_sub(ship.arrival as u64);
+    put_number_between(out, b"</svg></td><td class=\"r\">", flow, b"</td></tr>\n")
 }
 
 /// Appends the row of a ship with the first of these passages that serves it.
@@ -223,16 +227,11 @@ pub(crate) fn put_ships(
     requires { All (HasChamber instance.now) passages.now }
     ensures { OnOk result (out.new.items ≡ out.old.items ++ ships_table instance.now axis.now passages.now cost) }
 {
-    put_form(
+    put_plural_between(
         out,
         b"<table class=\"t\" aria-label=\"ships by time\">\n<thead><tr><th scope=\"col\">ship",
-        &[],
-    )?;
-    put_plural(out, instance.ships.as_slice().len() as u64)?;
-    put_form(
-        out,
+        instance.ships.as_slice().len() as u64,
         b"</th><th scope=\"col\" class=\"v\">arrives</th><th scope=\"col\" class=\"v\">waits</th><th scope=\"col\" class=\"v\">starts</th><th scope=\"col\" class=\"v\">ends</th><th scope=\"col\">lockage</th><td class=\"ax\">",
-        &[],
     )?;
     put_axis(out, axis)?;
     put_form(
@@ -241,11 +240,10 @@ pub(crate) fn put_ships(
         &[],
     )?;
     put_rows(out, instance, axis, passages)?;
-    put_form(
+    put_number_between(
         out,
         b"<tr class=\"f\"><th scope=\"row\">total</th><td colspan=\"6\"></td><td class=\"r\">",
-        &[],
-    )?;
-    put_number(out, cost)?;
-    put_form(out, b"</td></tr>\n</tbody>\n</table>\n", &[])
+        cost,
+        b"</td></tr>\n</tbody>\n</table>\n",
+    )
 }

@@ -1,6 +1,6 @@
 //! The style sheet.
 ghost use Rattle.std.specs.Prelude.{◌≡◌, ◌++◌, OnOk};
-ghost use Rattle.picture_page.specs.Page.{style_sheet, present_rules, present_style};
+ghost use Rattle.picture_page.specs.Page.{present_style};
 
 use crate::form::put_form;
 use no_memory::NoMemory;
@@ -14,7 +14,7 @@ body{margin:0;background:var(--bg);color:var(--ink);font:14px/1.35 \"Helvetica N
 main{max-width:1300px;margin:0 auto;padding:20px 16px 32px}\n\
 a{color:inherit}\n\
 h1{font-size:24px;line-height:1.2;margin:0 0 4px;font-weight:700;overflow-wrap:anywhere}\n\
-h2{font-size:16px;margin:26px 0 10px;font-weight:700}h2+.sub{margin:-6px 0 10px}\n\
+h2{font-size:16px;margin:26px 0 10px;font-weight:700}h2+.sub{margin:-6px 0 10px}main:not(:has(.card tr+tr)) h2+.sub{display:none}\n\
 .sub{margin:0 0 4px;color:var(--soft)}\n\
 table.t{border-collapse:collapse;table-layout:fixed;width:100%;margin:10px 0 8px}\n\
 .t th,.t td{padding:0;text-align:left;vertical-align:middle;border-bottom:1px solid var(--line);font-weight:400;overflow-wrap:anywhere}\n\
@@ -83,33 +83,19 @@ main:not(:has(.t .b0)) li:has([href=\"#u\"]),main:not(:has(.t .b1)) li:has([href
 @media print{main{padding:0;max-width:none;width:1050px}h1{font-size:20px;margin:0}.t tr,.legend{break-inside:avoid}.t tr:last-child,.t thead{break-after:avoid}.legend{break-before:avoid}h2,h2+.sub{break-after:avoid}h2{margin-top:16px}body{-webkit-print-color-adjust:exact;print-color-adjust:exact}.t th{width:46px}.t th:first-child{width:112px}.t th:nth-child(3){width:38px}.t th:nth-child(6){width:76px}.t th.r{width:60px}.t:first-child th:first-child{width:364px}a{text-decoration:none}.cards{grid-template-columns:repeat(4,1fr);gap:10px}}\n\
 ";
 
-/// Appends the style sheet.
-pub(crate) fn put_style(out: &mut Vec<u8>) -> Result<(), NoMemory>
-    ensures { OnOk result (out.new.items ≡ out.old.items ++ style_sheet) }
-{
-    put_form(out, STYLE, &[])
-}
-
 /// What the style sheet has besides where the page shows the minute that it is.
-pub(crate) const PRESENT_STYLE: &[u8] = b"\
+const PRESENT_STYLE: &[u8] = b"\
 .y{fill:none;stroke:var(--ink);stroke-width:2}\n\
 .f0{fill:none;stroke:var(--ink);stroke-width:1}\n\
 .oq{fill:var(--bg);stroke:var(--turn);stroke-width:1}\n\
 ";
 
-/// Appends that.
-fn put_present_rules(out: &mut Vec<u8>) -> Result<(), NoMemory>
-    ensures { OnOk result (out.new.items ≡ out.old.items ++ present_rules) }
-{
-    put_form(out, PRESENT_STYLE, &[])
-}
-
-/// Appends that, where the page shows the minute that it is.
+/// Appends those rules, where the page shows the minute that it is.
 pub(crate) fn put_present_style(out: &mut Vec<u8>, present: Option<u32>) -> Result<(), NoMemory>
     ensures { OnOk result (out.new.items ≡ out.old.items ++ present_style present) }
 {
     match present {
         None => Ok(()),
-        Some(_) => put_present_rules(out),
+        Some(_) => put_form(out, PRESENT_STYLE, &[]),
     }
 }

@@ -1,5 +1,6 @@
 //! Minutes, told in digits or as times of day.
-ghost use Rattle.std.specs.Prelude.{◌≡◌, ◌++◌, ◌<◌, ◌≤◌, ◌^◌, OnOk, length, decimal};
+ghost use Rattle.std.specs.Prelude.{[], ◌≡◌, ◌++◌, ◌<◌, ◌≤◌, ◌^◌, OnOk, length, decimal};
+ghost use Rattle.picture_page.specs.Forms.{filled};
 ghost use Rattle.picture_page.specs.Times.{offset_of, day_text, hours_text, day_time_text, time_text};
 
 use crate::form::put_form;
@@ -9,7 +10,7 @@ use plain_text::put_number;
 
 /// How a minute is told: in digits, or as a time of day where minute 0 is so many minutes after
 /// midnight.
-#[derive(Clone, Copy, PartialEq, Eq)]
+#[derive(Clone, Copy)]
 pub enum Clock {
     Minutes,
     Day(u16),
@@ -93,6 +94,19 @@ pub(crate) fn put_time(out: &mut Vec<u8>, clock: Clock, minute: u64) -> Result<(
         Clock::Minutes => put_number(out, minute),
         Clock::Day(offset) => put_day_time(out, offset, minute),
     }
+}
+
+/// Appends a minute as the clock tells it, after a text.
+pub(crate) fn put_time_after(
+    out: &mut Vec<u8>,
+    before: &[u8],
+    clock: Clock,
+    minute: u64,
+) -> Result<(), NoMemory>
+    ensures { OnOk result (out.new.items ≡ out.old.items ++ (filled before.now [] ++ time_text clock minute)) }
+{
+    put_form(out, before, &[])?;
+    put_time(out, clock, minute)
 }
 
 /// How many characters a time of day has.

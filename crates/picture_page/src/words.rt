@@ -1,5 +1,6 @@
 //! Lengths and counts.
-ghost use Rattle.std.specs.Prelude.{◌≡◌, ◌≤◌, ◌++◌, length, OnOk};
+ghost use Rattle.std.specs.Prelude.{[], ◌≡◌, ◌≤◌, ◌++◌, length, OnOk};
+ghost use Rattle.picture_page.specs.Forms.{filled};
 ghost use Rattle.picture_page.specs.Words.{metres, measures, plural, count_text};
 
 use crate::form::put_form;
@@ -44,6 +45,20 @@ pub(crate) fn put_plural(out: &mut Vec<u8>, count: u64) -> Result<(), NoMemory>
         return Ok(());
     }
     put(out, b"s")
+}
+
+/// Appends that ending between two texts.
+pub(crate) fn put_plural_between(
+    out: &mut Vec<u8>,
+    before: &[u8],
+    count: u64,
+    after: &[u8],
+) -> Result<(), NoMemory>
+    ensures { OnOk result (out.new.items ≡ out.old.items ++ (filled before.now [] ++ plural count ++ filled after.now [])) }
+{
+    put_form(out, before, &[])?;
+    put_plural(out, count)?;
+    put_form(out, after, &[])
 }
 
 /// Appends a count of things that have this name.

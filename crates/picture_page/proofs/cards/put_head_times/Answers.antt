@@ -6,5 +6,5 @@ use Rattle.picture_page.proofs.cards.put_head_times.Goals as goal
 pub returns : goal.returns
 unfolding head_times
 returns c =
-    IfOk-equal c.put_form-3.result _ _ _ c.put_form-3.ensures
-    (rw (c.in_ok-put_time-2.ensures, c.in_ok-put_form-2.ensures, c.in_ok-put_time.ensures, c.in_ok-put_form.ensures, c.end.ensures.value) (simp append_assoc))
+    IfOk-equal c.put_form.result _ _ _ c.put_form.ensures
+    (rw (c.in_ok-put_time_after-2.ensures, c.in_ok-put_time_after.ensures, c.end.ensures.value) (simp append_assoc))

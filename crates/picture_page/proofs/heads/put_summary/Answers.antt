@@ -6,14 +6,11 @@ use Rattle.picture_page.proofs.heads.put_summary.Goals as goal
 pub returns : goal.returns
 unfolding summary
 returns c =
-    IfOk-equal c.put_form-4.result _ _ _ c.put_form-4.ensures
+    IfOk-equal c.put_form.result _ _ _ c.put_form.ensures
     (rw (
-      c.in_ok-put_count-3.ensures,
-      c.in_ok-put_form-3.ensures,
-      c.in_ok-put_count-2.ensures,
-      c.in_ok-put_form-2.ensures,
-      c.in_ok-put_count.ensures,
-      c.in_ok-put_form.ensures,
+      c.in_ok-put_next_count-3.ensures,
+      c.in_ok-put_next_count-2.ensures,
+      c.in_ok-put_next_count.ensures,
       c.in_ok-put_event_span.ensures,
       c.as_slice.ensures.value,
       c.as_slice-2.ensures.value,

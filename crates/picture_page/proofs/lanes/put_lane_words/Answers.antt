@@ -6,10 +6,5 @@ use Rattle.picture_page.proofs.lanes.put_lane_words.Goals as goal
 pub returns : goal.returns
 unfolding lane_words
 returns c =
-    IfOk-equal c.put_form-2.result _ _ _ c.put_form-2.ensures
-    (rw (
-      c.in_ok-put_number.ensures,
-      c.in_ok-put_form.ensures,
-      c.in_ok-put_opens.ensures,
-      c.in_ok-put_labels.ensures,
-    ) (simp append_assoc))
+    IfOk-equal c.put_number_between.result _ _ _ c.put_number_between.ensures
+    (rw (c.in_ok-put_opens.ensures, c.in_ok-put_labels.ensures) (simp append_assoc))

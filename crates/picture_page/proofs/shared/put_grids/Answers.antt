@@ -6,5 +6,5 @@ use Rattle.picture_page.proofs.shared.put_grids.Goals as goal
 pub returns : goal.returns
 unfolding grids
 returns c =
-    IfOk-equal c.put-3.result _ _ _ c.put-3.ensures
-    (rw (c.in_ok-put_grid_lines-2.ensures, c.in_ok-put-2.ensures, c.in_ok-put_grid_lines.ensures, c.in_ok-put.ensures) (simp append_assoc))
+    IfOk-equal c.put_grid-2.result _ _ _ c.put_grid-2.ensures
+    (rw (c.in_ok-put_grid.ensures) (simp append_assoc))

@@ -14,15 +14,13 @@ returns c =
     let own = c.index-as_slice-passage.result in
     let same : own ≡ chamber_at I number =
     c.index-as_slice-passage.is ∙ ap (λ cs. get_or cs number own) c.as_slice.ensures.value ∙ get_or_default I.chambers number own _ c.requires in
-    IfOk-equal c.put_form-2.result _ _ _ c.put_form-2.ensures
+    IfOk-equal c.put_number_between.result _ _ _ c.put_number_between.ensures
     (rw (
-      c.in_ok-put_number.ensures,
-      c.in_ok-put_form.ensures,
       c.in_ok-put_row_picture.ensures,
       c.in_ok-put_row_passage.ensures,
       c.in_ok-put_row_wait.ensures,
       c.in_ok-put_row_name.ensures,
-      c.saturating_sub.ensures,
+      c.saturating_sub-flow.ensures,
       c.end.ensures.value,
       c.clock-2.ensures,
       c.clock.ensures,

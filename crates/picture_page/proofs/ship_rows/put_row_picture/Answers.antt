@@ -8,9 +8,7 @@ unfolding row_picture
 returns c =
     IfOk-equal c.put_row_number.result _ _ _ c.put_row_number.ensures
     (rw (
-      c.in_ok-put_form-2.ensures,
-      c.in_ok-put_present_line.ensures,
-      c.in_ok-put_form.ensures,
+      c.in_ok-put_row_marks.ensures,
       c.in_ok-put_passage_box.ensures,
       c.in_ok-put_wait_line.ensures,
       c.stretch_of.ensures,

@@ -6,5 +6,5 @@ use Rattle.picture_page.proofs.ship_rows.put_row_span.Goals as goal
 pub returns : goal.returns
 unfolding row_span
 returns c =
-    IfOk-equal c.put_time-2.result _ _ _ c.put_time-2.ensures
-    (rw (c.in_ok-put_form-2.ensures, c.in_ok-put_time.ensures, c.in_ok-put_form.ensures, c.end.ensures.value) (simp append_assoc))
+    IfOk-equal c.put_time_after-2.result _ _ _ c.put_time_after-2.ensures
+    (rw (c.in_ok-put_time_after.ensures, c.end.ensures.value) (simp append_assoc))

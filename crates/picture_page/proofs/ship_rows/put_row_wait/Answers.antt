@@ -7,4 +7,4 @@ pub returns : goal.returns
 unfolding row_wait
 returns c =
     IfOk-equal c.put_number.result _ _ _ c.put_number.ensures
-    (rw (c.in_ok-put_form-2.ensures, c.in_ok-put_time.ensures, c.in_ok-put_form.ensures, c.saturating_sub.ensures) (simp append_assoc))
+    (rw (c.in_ok-put_form.ensures, c.in_ok-put_time_after.ensures, c.saturating_sub.ensures) (simp append_assoc))

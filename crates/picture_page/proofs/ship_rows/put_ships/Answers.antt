@@ -6,15 +6,11 @@ use Rattle.picture_page.proofs.ship_rows.put_ships.Goals as goal
 pub returns : goal.returns
 unfolding ships_table
 returns c =
-    IfOk-equal c.put_form-5.result _ _ _ c.put_form-5.ensures
+    IfOk-equal c.put_number_between.result _ _ _ c.put_number_between.ensures
     (rw (
-      c.in_ok-put_number.ensures,
-      c.in_ok-put_form-4.ensures,
       c.in_ok-put_rows.ensures,
-      c.in_ok-put_form-3.ensures,
-      c.in_ok-put_axis.ensures,
-      c.in_ok-put_form-2.ensures,
-      c.in_ok-put_plural.ensures,
       c.in_ok-put_form.ensures,
+      c.in_ok-put_axis.ensures,
+      c.in_ok-put_plural_between.ensures,
       c.as_slice.ensures.value,
     ) (simp append_assoc))
