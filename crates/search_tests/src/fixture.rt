@@ -21,10 +21,13 @@ pub(crate) fn case_of(instance: Instance, nodes: u32, turns: u32) -> Option<Case
 /// The book of an instance for so many nodes and turns, opened with its singles plan.
 pub(crate) fn open(
     alloc: Global,
-    instance: Instance,
+    instance: Option<Instance>,
     nodes: u32,
     turns: u32,
 ) -> Result<Book, Fail> {
+    let Some(instance) = instance else {
+        return Err("no instance".into());
+    };
     let case = case_of(instance, nodes, turns).ok_or("no case")?;
     if first_unfit(&case.instance).is_some() {
         return Err("an unfit ship".into());

@@ -5,7 +5,6 @@ use crate::walk::node_at;
 use flow_bounds::{bound, is_missing, probe, throughput};
 use lock_model::{Instance, Ship, Way};
 use master_branch::Node;
-use std::test::Fail;
 use worked_locks::{chamber, one_chamber};
 
 // What differs from one lock of two equal ships to the next.
@@ -26,6 +25,18 @@ const UP: Lock = Lock {
 
 const UP_AND_DOWN: Lock = Lock {
     most: 1,
+    turn: 0,
+    handling: 0,
+    second: Way::Down,
+};
+
+const UP_THEN_DOWN: Lock = Lock {
+    second: Way::Down,
+    ..UP
+};
+
+const TWO_WAYS_AT_ONCE: Lock = Lock {
+    most: 2,
     turn: 0,
     handling: 0,
     second: Way::Down,
@@ -58,43 +69,37 @@ fn probe_at(instance: &Instance, node: &Node, ship: u8) -> Option<u64>
     }
 }
 
-// The bound of the node at the end of a path, and the probes of both ships there.
-type Bounded = (Lock, &'static [u32], u64, Option<u64>, Option<u64>);
+// The throughput, the bound of a node, and the probes there of two ships and of one that isn't in the instance.
+type Found = (u64, u64, Option<u64>, Option<u64>, Option<u64>);
 
-// Children of the first ship's node: together, the second ship first, the second ship second.
-const BOUNDED: [Bounded; 6] = [
-    (UP, &[], 70, Some(70), Some(70)),
-    (UP, &[0], 70, None, Some(80)),
-    (UP, &[0, 0], 80, None, None),
-    (UP, &[0, 1], 120, None, None),
-    (UP, &[0, 2], 120, None, None),
-    (UP_AND_DOWN, &[], 60, Some(60), Some(60)),
+fn found(lock: Lock, path: &[u32]) -> Option<Found> {
+    let instance = instance(lock)?;
+    let node = node_at(&instance, path)?;
+    Some((
+        throughput(&instance),
+        bound(&instance, &node),
+        probe_at(&instance, &node, 0),
+        probe_at(&instance, &node, 1),
+        probe_at(&instance, &node, 2),
+    ))
+}
+
+// The path of a node, and what is found there. Children of the first ship's node: together, the second ship
+// first, the second ship second.
+const BOUNDED: &[(Lock, &'static [u32], Found)] = &[
+    (UP, &[], (70, 70, Some(70), Some(70), None)),
+    (UP, &[0], (70, 70, None, Some(80), None)),
+    (UP, &[0, 0], (70, 80, None, None, None)),
+    (UP, &[0, 1], (70, 120, None, None, None)),
+    (UP, &[0, 2], (70, 120, None, None, None)),
+    (UP_AND_DOWN, &[], (90, 60, Some(60), Some(60), None)),
+    (UP_THEN_DOWN, &[], (70, 85, Some(85), Some(85), None)),
+    (TWO_WAYS_AT_ONCE, &[], (60, 60, Some(60), Some(60), None)),
 ];
 
 #[test]
-fn bounds_and_probes_count_what_is_certain(rt: HostRuntime) -> Result<(), Fail> {
-    for (lock, path, least, first, second) in BOUNDED {
-        let instance = instance(lock).ok_or("no instance")?;
-        let node = node_at(&instance, path).ok_or("no node")?;
-        assert!(rt; bound(&instance, &node) == least);
-        assert!(rt; probe_at(&instance, &node, 0) == first);
-        assert!(rt; probe_at(&instance, &node, 1) == second);
-        assert!(rt; probe_at(&instance, &node, 2).is_none());
+fn bounds_and_probes_count_what_is_certain(rt: HostRuntime) {
+    for &(lock, path, told) in BOUNDED {
+        assert!(rt; found(lock, path) == Some(told));
     }
-    Ok(())
-}
-
-#[test]
-fn a_throughput_counts_passages(rt: HostRuntime) -> Result<(), Fail> {
-    for (most, turn, handling, minutes) in [(1, 0, 0, 90), (2, 0, 0, 60), (4, 15, 5, 70)] {
-        let lock = Lock {
-            most,
-            turn,
-            handling,
-            ..UP_AND_DOWN
-        };
-        let instance = instance(lock).ok_or("no instance")?;
-        assert!(rt; throughput(&instance) == minutes);
-    }
-    Ok(())
 }

@@ -14,7 +14,7 @@ mod bounds;
 #[cfg(test)]
 mod decks;
 #[cfg(test)]
-mod fixture;
+mod locks;
 #[cfg(test)]
 mod near;
 #[cfg(test)]

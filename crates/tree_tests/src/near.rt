@@ -1,6 +1,6 @@
 //! Plans near made-up lines.
 use lock_model::{Group, Instance, Ships, Spot, Spots, Way};
-use near_plan::{Fitting, near_plan};
+use near_plan::{Fitting, Moves, near_plan};
 use no_memory::NoMemory;
 use price_terms::{LooseLine, LooseLines};
 use std::alloc::Global;
@@ -30,18 +30,23 @@ impl Fitting for OneByOne<'_> {
     }
 }
 
-// Loose lines of one chamber with these groups: 0 and 1 for one ship, 2 for both.
+// The group of one ship, 0 or 1, or of both, 2.
+fn group(which: u8) -> Group {
+    let mut ships = Ships::single(which % 2);
+    if which == 2 {
+        ships.push(1);
+    }
+    Group {
+        way: Way::Up,
+        ships,
+    }
+}
+
+// Loose lines of one chamber with these groups.
 fn lines_of(alloc: Global, groups: &[u8]) -> Result<LooseLines, Fail> {
     let mut line = Vec::new(alloc);
     for &which in groups {
-        let mut ships = Ships::single(which % 2);
-        if which == 2 {
-            ships.push(1);
-        }
-        line.push(Group {
-            way: Way::Up,
-            ships,
-        })?;
+        line.push(group(which))?;
     }
     let mut lines = Vec::new(alloc);
     lines.push(LooseLine {
@@ -51,26 +56,35 @@ fn lines_of(alloc: Global, groups: &[u8]) -> Result<LooseLines, Fail> {
     Ok(LooseLines { lines, sum: 0 })
 }
 
+// How many lockages the plan near such lines has that costs less than this, if there is one. In a chamber for
+// one of them the two ships end at 35 and at 85, 120 together.
+fn lockages(alloc: Global, groups: &[u8], below: u64, moves: Moves) -> Result<Option<usize>, Fail> {
+    let instance = two_ships(232).ok_or("no instance")?;
+    let lines = lines_of(alloc, groups)?;
+    let mut fitting = OneByOne {
+        instance: &instance,
+    };
+    match near_plan(alloc, &instance, &lines, below, moves, &mut fitting)? {
+        Some(plan) => Ok(Some(plan.lockages.as_slice().len())),
+        None => Ok(None),
+    }
+}
+
+const NEAR: &[(&'static [u8], u64, Option<usize>)] = &[
+    (&[], 121, Some(2)),
+    (&[0, 1], 121, Some(2)),
+    (&[0, 0, 0], 121, Some(2)),
+    (&[2], 121, Some(2)),
+    (&[1, 2, 0], 121, Some(2)),
+    (&[0, 1], 120, None),
+];
+
 #[test]
 fn each_ship_is_kept_once_or_put_in(rt: HostRuntime) -> Result<(), Fail> {
-    // in a chamber for one of them the two end at 35 and at 85, 120 together
-    let instance = two_ships(232).ok_or("no instance")?;
-    let cases: [(&[u8], u64, Option<usize>); 6] = [
-        (&[], 121, Some(2)),
-        (&[0, 1], 121, Some(2)),
-        (&[0, 0, 0], 121, Some(2)),
-        (&[2], 121, Some(2)),
-        (&[1, 2, 0], 121, Some(2)),
-        (&[0, 1], 120, None),
-    ];
-    for (groups, below, lockages) in cases {
-        let lines = lines_of(rt.alloc(), groups)?;
-        let mut fitting = OneByOne {
-            instance: &instance,
-        };
-        let found = near_plan(rt.alloc(), &instance, &lines, below, &mut fitting)?;
-        let count = found.map(|plan| plan.lockages.as_slice().len());
-        assert!(rt; count == lockages);
+    for &(groups, below, count) in NEAR {
+        for moves in [Moves::Ships, Moves::Stretches] {
+            assert!(rt; lockages(rt.alloc(), groups, below, moves)? == count);
+        }
     }
     Ok(())
 }

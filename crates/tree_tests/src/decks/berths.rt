@@ -1,11 +1,10 @@
 //! Decks placed and refuted by berths. Worked berth trees stand with the second checker.
+use super::fixture::are_legal;
 use berth_check::check_berth_tree;
 use berth_place::{BerthPlaced, place_by_berths};
-use lock_model::{Deck, Measures, Spots};
-use mooring_rules::judge_spots;
+use lock_model::{Deck, Measures};
 use refute_rules::Marks;
 use std::alloc::Global;
-use std::test::Fail;
 use worked_locks::deck_of;
 
 /// A chamber by length, width and gap along, and ships by length and width.
@@ -33,7 +32,7 @@ const ONE_HOST: Worked = ((140, 40, 5), &[(90, 50), (90, 50), (90, 30)]);
 /// A deck, the turns, and the answer.
 type Tried = (Worked, u32, &'static str);
 
-const PLACED: [Tried; 6] = [
+const PLACED: &[Tried] = &[
     // a ship that is too wide, at both quays
     (TOO_WIDE, 2, "refuted"),
     (TOO_WIDE, 1, "spent"),
@@ -49,11 +48,6 @@ const PLACED: [Tried; 6] = [
         "fits",
     ),
 ];
-
-// Whether spots are legal.
-fn are_legal(deck: &Deck, spots: &Spots) -> bool {
-    spots.as_slice().len() == deck.ships.as_slice().len() && judge_spots(deck, spots).is_none()
-}
 
 // Whether marks are a berth tree.
 fn is_tree(alloc: Global, deck: &Deck, marks: &Marks) -> bool {
@@ -73,12 +67,16 @@ fn told(alloc: Global, deck: &Deck, placed: &BerthPlaced) -> &'static str {
     }
 }
 
+fn answer(alloc: Global, tried: &Tried) -> Option<&'static str> {
+    let ((room, ships), turns, _) = *tried;
+    let deck = deck(room, ships)?;
+    let placed = place_by_berths(alloc, &deck, turns).ok()?;
+    Some(told(alloc, &deck, &placed))
+}
+
 #[test]
-fn worked_decks_fit_are_refuted_or_need_more_turns(rt: HostRuntime) -> Result<(), Fail> {
-    for ((room, ships), turns, wanted) in PLACED {
-        let deck = deck(room, ships).ok_or("no deck")?;
-        let placed = place_by_berths(rt.alloc(), &deck, turns)?;
-        assert!(rt; told(rt.alloc(), &deck, &placed) == wanted);
+fn worked_decks_fit_are_refuted_or_need_more_turns(rt: HostRuntime) {
+    for tried in PLACED {
+        assert!(rt; answer(rt.alloc(), tried) == Some(tried.2));
     }
-    Ok(())
 }

@@ -1,14 +1,10 @@
 //! Decks placed and refuted by cases. What is left out of a cut its contract says, and rows of dossiers show.
-ghost use Rattle.std.specs.Prelude.{◌≤◌};
-
-use super::fixture::{LEFT, Place, QUAY, RIGHT, TWINS, spots_of, worked_deck};
+use super::fixture::{TWINS, lie};
 use chamber_place::{Placed, place};
-use lock_model::{Deck, Measures};
+use lock_model::Measures;
 use refute_rules::Refutation;
 use std::alloc::Global;
-use std::process::Abort;
-use std::test::Fail;
-use worked_locks::BASE;
+use worked_locks::{BASE, deck_of};
 
 /// No ship is as long or as wide as this chamber, and none has a gap to keep.
 const SQUARE: Measures = Measures {
@@ -19,46 +15,37 @@ const SQUARE: Measures = Measures {
     side: 0,
 };
 
-const FOUR: [(u32, u32); 4] = [(27, 59), (59, 30), (49, 47), (49, 49)];
+const FOUR: &[(u32, u32)] = &[(27, 59), (59, 30), (49, 47), (49, 49)];
 
-fn expect_fits(
-    rt: &impl Abort,
-    alloc: Global,
-    deck: &Deck,
-    turns: u32,
-    places: &[Place],
-) -> Result<(), Fail>
-    requires { 1 ≤ turns }
-{
-    match place(alloc, deck, turns)? {
-        Placed::Fits(found) => assert!(rt; found == spots_of(places)),
-        _ => return Err("it fits".into()),
+// What is answered: where ships lie, how many turns were spent, or how many marks a case tree has.
+fn told(placed: &Placed) -> (&'static str, usize) {
+    match placed {
+        Placed::Fits(spots) => (lie(spots), 0),
+        Placed::Spent(hard) => ("spent", hard.turns as usize),
+        Placed::Refuted(Refutation::Cases(marks)) => ("refuted", marks.as_slice().len()),
+        _ => ("another", 0),
     }
-    Ok(())
+}
+
+/// A deck, the turns, and the answer.
+type Tried = (Measures, &'static [(u32, u32)], u32, (&'static str, usize));
+
+// The four have no quick reason.
+const PLACED: &[Tried] = &[
+    (BASE, TWINS, 4, ("spent", 4)),
+    (BASE, TWINS, 5, ("side by side", 0)),
+    (SQUARE, FOUR, 20_000, ("refuted", 7444)),
+];
+
+fn answer(alloc: Global, tried: &Tried) -> Option<(&'static str, usize)> {
+    let deck = deck_of(tried.0, tried.1)?;
+    let placed = place(alloc, &deck, tried.2.max(1)).ok()?;
+    Some(told(&placed))
 }
 
 #[test]
-fn two_ships_take_five_turns(rt: HostRuntime) -> Result<(), Fail> {
-    let deck = worked_deck(BASE, TWINS)?;
-    match place(rt.alloc(), &deck, 4)? {
-        Placed::Spent(hard) => {
-            assert!(rt; hard.turns == 4);
-            assert!(rt; hard.deck == deck);
-        }
-        _ => return Err("4 turns are too few".into()),
+fn decks_are_placed_or_refuted_in_so_many_turns(rt: HostRuntime) {
+    for tried in PLACED {
+        assert!(rt; answer(rt.alloc(), tried) == Some(tried.3));
     }
-    let places = [(10, 0, LEFT, QUAY), (10, 126, RIGHT, QUAY)];
-    expect_fits(&rt, rt.alloc(), &deck, 5, &places)
-}
-
-#[test]
-fn a_deck_without_a_quick_reason_gets_a_case_tree(rt: HostRuntime) -> Result<(), Fail> {
-    let deck = worked_deck(SQUARE, &FOUR)?;
-    match place(rt.alloc(), &deck, 20_000)? {
-        Placed::Refuted(Refutation::Cases(marks)) => {
-            assert!(rt; marks.as_slice().len() == 7444);
-        }
-        _ => return Err("no case tree".into()),
-    }
-    Ok(())
 }

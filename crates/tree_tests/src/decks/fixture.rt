@@ -1,7 +1,10 @@
 //! Measures, decks, and places of ships.
+ghost use Rattle.std.specs.Prelude.{IsTrue};
+ghost use Rattle.lock_model.specs.Placement.{IsLegalPlacement};
+
 use lock_model::{Deck, Measures, Moor, Rank, Spot, Spots};
-use std::test::Fail;
-use worked_locks::{BASE, deck_of};
+use mooring_rules::judge_spots;
+use worked_locks::BASE;
 
 /// Two base ships don't lie side by side here.
 pub(crate) const NARROW: Measures = Measures { width: 232, ..BASE };
@@ -15,11 +18,6 @@ pub(crate) const SHORT: Measures = Measures {
 /// Two base ships by length and width.
 pub(crate) const TWINS: &[(u32, u32)] = &[(1100, 114), (1100, 114)];
 
-/// The deck of ships without cargo, by length and width.
-pub(crate) fn worked_deck(measures: Measures, ships: &[(u32, u32)]) -> Result<Deck, Fail> {
-    Ok(deck_of(measures, ships).ok_or("no deck")?)
-}
-
 /// Where a ship lies: its x and y, its rank, and what it is moored to.
 pub(crate) type Place = (u32, u32, Rank, Moor);
 
@@ -28,6 +26,9 @@ pub(crate) const QUAY: Moor = Moor::Quay;
 pub(crate) const LEFT: Rank = Rank::Left;
 
 pub(crate) const RIGHT: Rank = Rank::Right;
+
+/// The twins, each at its own quay.
+pub(crate) const SIDE_BY_SIDE: &[Place] = &[(10, 0, LEFT, QUAY), (10, 126, RIGHT, QUAY)];
 
 /// The spots of the first eight of these places.
 pub(crate) fn spots_of(places: &[Place]) -> Spots {
@@ -38,4 +39,20 @@ pub(crate) fn spots_of(places: &[Place]) -> Spots {
         }
     }
     spots
+}
+
+/// Whether ships lie side by side as the twins do.
+pub(crate) fn lie(spots: &Spots) -> &'static str {
+    if *spots == spots_of(SIDE_BY_SIDE) {
+        "side by side"
+    } else {
+        "elsewhere"
+    }
+}
+
+/// Whether spots are legal.
+pub(crate) fn are_legal(deck: &Deck, spots: &Spots) -> bool
+    ensures { IsTrue result → IsLegalPlacement deck.now spots.now }
+{
+    spots.as_slice().len() == deck.ships.as_slice().len() && judge_spots(deck, spots).is_none()
 }

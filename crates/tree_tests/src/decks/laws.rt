@@ -4,16 +4,32 @@
 ghost use Rattle.std.specs.Prelude.{◌≤◌, IfSome};
 ghost use Rattle.deck_laws.specs.Widen.{IsRoomier};
 
-use super::fixture::{LEFT, Place, QUAY, RIGHT, TWINS, spots_of, worked_deck};
+use super::fixture::{LEFT, Place, QUAY, RIGHT, SIDE_BY_SIDE, TWINS, are_legal, spots_of};
 use deck_laws::{thin_out, widen};
 use lock_model::{Deck, Measures, Moor, Spots};
-use mooring_rules::judge_spots;
-use std::process::Abort;
-use std::test::Fail;
-use worked_locks::BASE;
+use worked_locks::{BASE, deck_of};
+
+const THREE: &[(u32, u32)] = &[(600, 60), (500, 50), (400, 40)];
+
+const IN_A_ROW: &[Place] = &[
+    (10, 0, LEFT, QUAY),
+    (20, 65, LEFT, Moor::Ship(0)),
+    (30, 120, LEFT, Moor::Ship(1)),
+];
+
+// Where the others of three ships in a row lie without this one.
+fn without(ship: u8) -> Option<Spots> {
+    let deck = deck_of(BASE, THREE)?;
+    let spots = spots_of(IN_A_ROW);
+    if deck.ships.as_slice().len() == 3 && ship < 3 && are_legal(&deck, &spots) {
+        Some(thin_out(&deck, &spots, ship).1)
+    } else {
+        None
+    }
+}
 
 // The deck in a chamber of this width, if it is within the limits.
-fn widened(deck: &Deck, width: u32) -> Option<Deck>
+fn deck_in(deck: &Deck, width: u32) -> Option<Deck>
     ensures { IfSome result (λ e. deck.now.width ≤ width → IsRoomier deck.now e) }
 {
     let measures = Measures {
@@ -26,41 +42,30 @@ fn widened(deck: &Deck, width: u32) -> Option<Deck>
     Deck::new(measures, deck.ships.copy())
 }
 
-// Without this ship the other two lie at these places.
-fn expect_left(rt: &impl Abort, deck: &Deck, spots: &Spots, ship: u8, places: &[Place]) {
-    assert!(rt; deck.ships.as_slice().len() == 3 && ship < 3);
-    assert!(rt; spots.as_slice().len() == deck.ships.as_slice().len());
-    assert!(rt; judge_spots(deck, spots).is_none());
-    let (rest, left) = thin_out(deck, spots, ship);
-    assert!(rt; rest.ships.as_slice().len() == 2);
-    assert!(rt; left == spots_of(places));
+// Where the twins lie that lay side by side, in a chamber of this width.
+fn widened(width: u32) -> Option<Spots> {
+    let deck = deck_of(BASE, TWINS)?;
+    let wider = deck_in(&deck, width)?;
+    let mut spots = spots_of(SIDE_BY_SIDE);
+    if deck.width <= width && are_legal(&deck, &spots) {
+        widen(&deck, &wider, &mut spots);
+        Some(spots)
+    } else {
+        None
+    }
 }
 
-#[test]
-fn guests_take_the_mooring_of_the_ship_that_is_left_out(rt: HostRuntime) -> Result<(), Fail> {
-    let deck = worked_deck(BASE, &[(600, 60), (500, 50), (400, 40)])?;
-    let spots = spots_of(&[
-        (10, 0, LEFT, QUAY),
-        (20, 65, LEFT, Moor::Ship(0)),
-        (30, 120, LEFT, Moor::Ship(1)),
-    ]);
-    let without_first = [(20, 0, LEFT, QUAY), (30, 55, LEFT, Moor::Ship(0))];
-    expect_left(&rt, &deck, &spots, 0, &without_first);
-    let without_second = [(10, 0, LEFT, QUAY), (30, 65, LEFT, Moor::Ship(0))];
-    expect_left(&rt, &deck, &spots, 1, &without_second);
-    Ok(())
-}
+const LEFT_OUT: &[(u8, &'static [Place])] = &[
+    (0, &[(20, 0, LEFT, QUAY), (30, 55, LEFT, Moor::Ship(0))]),
+    (1, &[(10, 0, LEFT, QUAY), (30, 65, LEFT, Moor::Ship(0))]),
+];
+
+const FURTHER_APART: &[Place] = &[(10, 0, LEFT, QUAY), (10, 136, RIGHT, QUAY)];
 
 #[test]
-fn the_right_rank_follows_its_quay(rt: HostRuntime) -> Result<(), Fail> {
-    let deck = worked_deck(BASE, TWINS)?;
-    assert!(rt; deck.width == 240);
-    let wider = widened(&deck, 250).ok_or("no deck")?;
-    let mut spots = spots_of(&[(10, 0, LEFT, QUAY), (10, 126, RIGHT, QUAY)]);
-    assert!(rt; spots.as_slice().len() == deck.ships.as_slice().len());
-    assert!(rt; judge_spots(&deck, &spots).is_none());
-    widen(&deck, &wider, &mut spots);
-    let follows = spots_of(&[(10, 0, LEFT, QUAY), (10, 136, RIGHT, QUAY)]);
-    assert!(rt; spots == follows);
-    Ok(())
+fn guests_take_the_mooring_that_is_left_and_the_right_rank_follows_its_quay(rt: HostRuntime) {
+    for &(ship, places) in LEFT_OUT {
+        assert!(rt; without(ship) == Some(spots_of(places)));
+    }
+    assert!(rt; widened(250) == Some(spots_of(FURTHER_APART)));
 }

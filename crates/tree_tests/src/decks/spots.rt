@@ -1,27 +1,18 @@
 //! Decks placed and refuted by spots.
-use super::fixture::{LEFT, NARROW, QUAY, RIGHT, SHORT, TWINS, spots_of, worked_deck};
+use super::fixture::{NARROW, SHORT, TWINS, lie};
 use lock_model::Measures;
 use spot_place::{SpotPlaced, place_by_spots};
 use std::alloc::Global;
-use std::process::Abort;
-use std::test::Fail;
-use worked_locks::BASE;
+use worked_locks::{BASE, deck_of};
 
-#[test]
-fn the_first_whole_spot_case_is_placed(rt: HostRuntime) -> Result<(), Fail> {
-    let deck = worked_deck(BASE, TWINS)?;
-    let expected = spots_of(&[(10, 0, LEFT, QUAY), (10, 126, RIGHT, QUAY)]);
-    for turns in [7, 20_000] {
-        match place_by_spots(rt.alloc(), &deck, turns)? {
-            SpotPlaced::Fits(spots) => assert!(rt; spots == expected),
-            _ => return Err("the twins fit".into()),
-        }
-    }
-    Ok(())
-}
-
-/// Ships by length and width, the turns, and the spot tree where they are enough.
-type Tried = (Measures, &'static [(u32, u32)], u32, Option<&'static [u32]>);
+/// Ships by length and width, the turns, the spot tree where they are enough for one, and the answer.
+type Tried = (
+    Measures,
+    &'static [(u32, u32)],
+    u32,
+    &'static [u32],
+    &'static str,
+);
 
 // Ship 0 at each quay and then at ship 1, with the four berths of ship 1 for each.
 const NARROW_TREE: &[u32] = &[
@@ -29,31 +20,37 @@ const NARROW_TREE: &[u32] = &[
     0, 1, 0, 2, 0, 1, 0, 0, 0, 1, 0, 3, 0, 1, 0, 2, 0,
 ];
 
-const UNFIT: [Tried; 6] = [
-    (NARROW, TWINS, 29, Some(NARROW_TREE)),
-    (NARROW, TWINS, 28, None),
-    (SHORT, &[(90, 50)], 3, Some(&[0, 0, 0])),
-    (SHORT, &[(90, 50)], 2, None),
-    (BASE, TWINS, 6, None),
-    (BASE, TWINS, 1, None),
+const PLACED: &[Tried] = &[
+    (NARROW, TWINS, 29, NARROW_TREE, "refuted"),
+    (NARROW, TWINS, 28, &[], "spent"),
+    (SHORT, &[(90, 50)], 3, &[0, 0, 0], "refuted"),
+    (SHORT, &[(90, 50)], 2, &[], "spent"),
+    (BASE, TWINS, 1, &[], "spent"),
+    (BASE, TWINS, 6, &[], "spent"),
+    (BASE, TWINS, 7, &[], "side by side"),
+    (BASE, TWINS, 20_000, &[], "side by side"),
 ];
 
-fn expect_unfit(rt: &impl Abort, alloc: Global, tried: Tried) -> Result<(), Fail> {
-    let (measures, ships, turns, tree) = tried;
-    let deck = worked_deck(measures, ships)?;
-    assert!(rt; turns >= 1);
-    match place_by_spots(alloc, &deck, turns)? {
-        SpotPlaced::Fits(_) => return Err("no whole case is among these".into()),
-        SpotPlaced::Refuted(marks) => assert!(rt; Some(marks.as_slice()) == tree),
-        SpotPlaced::Spent(hard) => assert!(rt; tree.is_none() && hard.turns == turns),
+// What is answered, where the turns are these and the tree is this one.
+fn told(placed: &SpotPlaced, turns: u32, tree: &[u32]) -> &'static str {
+    match placed {
+        SpotPlaced::Fits(spots) => lie(spots),
+        SpotPlaced::Refuted(marks) if marks.as_slice() == tree => "refuted",
+        SpotPlaced::Spent(hard) if hard.turns == turns => "spent",
+        _ => "wrong",
     }
-    Ok(())
+}
+
+fn answer(alloc: Global, tried: &Tried) -> Option<&'static str> {
+    let deck = deck_of(tried.0, tried.1)?;
+    let turns = tried.2.max(1);
+    let placed = place_by_spots(alloc, &deck, turns).ok()?;
+    Some(told(&placed, turns, tried.3))
 }
 
 #[test]
-fn a_deck_is_refuted_or_its_turns_are_spent(rt: HostRuntime) -> Result<(), Fail> {
-    for tried in UNFIT {
-        expect_unfit(&rt, rt.alloc(), tried)?;
+fn a_deck_is_placed_or_refuted_or_its_turns_are_spent(rt: HostRuntime) {
+    for tried in PLACED {
+        assert!(rt; answer(rt.alloc(), tried) == Some(tried.4));
     }
-    Ok(())
 }

@@ -1,20 +1,11 @@
-//! Plans of two ships before one chamber, a book and a cut.
+//! Plans of two ships before one chamber, and the cut of both.
 
-use book_core::{Book, Case, open_book};
+use super::priced_root::NARROW;
 use deck_cuts::{Cut, Quick, Refutation};
-use first_plan::singles_plan;
 use lock_model::{Lockage, Lockages, Measures, Moor, Plan, Rank, Ships, Spot, Spots, Way};
-use mooring_rules::first_unfit;
 use place_refute::make_cut;
 use std::alloc::Global;
-use std::test::Fail;
-use worked_locks::{BASE, deck_of, pair, two_ships};
-
-/// The width of the chamber in which two ships lie side by side.
-pub(crate) const SIDE: u32 = 240;
-
-/// The width of the chamber in which they don't.
-pub(crate) const NARROW: u32 = 232;
+use worked_locks::{BASE, deck_of, pair};
 
 fn spot(y: u32, rank: Rank) -> Spot {
     Spot {
@@ -56,31 +47,18 @@ pub(crate) fn both() -> Plan {
     Plan { lockages }
 }
 
-/// The book of two ships before a chamber of this width for three nodes, opened with its singles plan.
-pub(crate) fn open(alloc: Global, width: u32) -> Result<Book, Fail> {
-    let instance = two_ships(width).ok_or("no instance")?;
-    if first_unfit(&instance).is_some() {
-        return Err("an unfit ship".into());
-    }
-    let plan = singles_plan(&instance);
-    Ok(open_book(alloc, &Case::new(instance, 3, 128), plan)?)
-}
-
 /// The cut of both ships in the narrow chamber, with this gap along, by a row of them.
-pub(crate) fn row_cut(alloc: Global, gap: u32) -> Result<Cut, Fail> {
+pub(crate) fn row_cut(alloc: Global, gap: u32) -> Option<Cut> {
     let measures = Measures {
         width: NARROW,
         gap,
         ..BASE
     };
-    let deck = deck_of(measures, &[(1100, 114), (1100, 114)]).ok_or("no deck")?;
+    let deck = deck_of(measures, &[(1100, 114), (1100, 114)])?;
     let ships = pair(0, 1);
     if ships.len() != deck.ships.as_slice().len() {
-        return Err("not one size a ship".into());
+        return None;
     }
     let row = Refutation::Quick(Quick::Row(pair(0, 1)));
-    match make_cut(alloc, 0, ships, deck, row) {
-        Ok(cut) => Ok(cut),
-        Err(_) => Err("no cut".into()),
-    }
+    make_cut(alloc, 0, ships, deck, row).ok()
 }

@@ -1,4 +1,4 @@
-//! Locks of one chamber and two ships, and a worker that searches a book alone.
+//! A worker that searches a book alone.
 ghost use Rattle.std.specs.Prelude.{◌≡◌, ◌+◌, length, sum_by, All, IfSome};
 
 use book_core::Book;
@@ -9,33 +9,19 @@ use lock_model::{Instance, Way};
 use master_branch::arrival_order;
 use node_work::Search;
 use search_book::{ShareList, share_book};
-use search_worker::{Board, Hands, Post, search};
+use search_worker::{Hands, Post, search};
 use std::alloc::Global;
 use std::marker::Brand;
 use std::sync::ledger::{Blank, Ledger};
 use std::sync::{Mutex, Wait};
 use std::test::Fail;
-use worked_locks::{chamber, one_chamber, ship, two_ships};
+use worked_locks::{chamber, one_chamber, ship};
 
 /// Two ships that want up at once, and a chamber that serves one at a time.
-pub(crate) fn one_at_a_time() -> Result<Instance, Fail> {
+pub(crate) fn one_at_a_time() -> Option<Instance> {
     let mut only = chamber(b'c', 232);
     only.most = 1;
-    let (first, second) = (ship(b's', Way::Up, 0), ship(b't', Way::Up, 0));
-    Ok(one_chamber(only, first, second).ok_or("no instance")?)
-}
-
-/// Two ships that want up at once, and a chamber of this width.
-pub(crate) fn two_up(width: u32) -> Result<Instance, Fail> {
-    Ok(two_ships(width).ok_or("no instance")?)
-}
-
-/// What a worker is given beside its book: the instance that it takes for the book's, and a board of
-/// prices, if any.
-#[derive(Clone, Copy)]
-pub(crate) struct Given<'a> {
-    pub(crate) instance: &'a Instance,
-    pub(crate) board: Option<&'a Board>,
+    one_chamber(only, ship(b's', Way::Up, 0), ship(b't', Way::Up, 0))
 }
 
 // A worker's hands: the last share of a list of single parts, and a seat of one part.
@@ -50,16 +36,16 @@ fn hands_of<L: Ledger>(shares: &mut ShareList<L>, seat: BoundSeat) -> Option<Han
     Some(Hands { share, seat })
 }
 
-// The book after one worker has searched it with what it is given, under a ledger of two parts, and
-// the least cost that was posted.
-fn searched_by<L: Ledger, W: Wait, G: Gate>(
+// The book after one worker has searched it, which it takes for one of this instance, under a ledger of two
+// parts.
+fn searched_by<L: Ledger, W: Wait>(
     rt: &W,
     alloc: Global,
-    gate: &G,
+    gate: &PointGate,
     blank: Blank,
     book: Book,
-    given: Given<'_>,
-) -> Result<(Book, u64), Fail>
+    instance: &Instance,
+) -> Result<Book, Fail>
     requires name { blank.name ≡ L.name }
     requires parts { (blank.parts ≡ L.parts) × (blank.parts ≡ 2) }
 {
@@ -74,44 +60,29 @@ fn searched_by<L: Ledger, W: Wait, G: Gate>(
         rt,
         alloc,
         gate,
-        search: Search::new(given.instance, turns),
-        order: arrival_order(given.instance),
+        search: Search::new(instance, turns),
+        order: arrival_order(instance),
         quota: u32::MAX,
-        board: given.board,
+        board: None,
         book: &book,
         pool: &pool,
         word: &word,
     };
-    let Hands { share, seat } = search(&post, 0, hands);
-    shares.push(share);
-    Ok((Box::into_inner(book.into_book(shares)), word.close(seat)))
+    shares.push(search(&post, 0, hands).share);
+    Ok(Box::into_inner(book.into_book(shares)))
 }
 
-/// The book after one worker has searched it alone with what it is given, and the least cost that
-/// was posted.
-pub(crate) fn searched_as<W: Wait, G: Gate>(
+/// The book after one worker has searched it alone, without prices; it takes the book for one of the other
+/// instance, where there is one.
+pub(crate) fn searched<W: Wait>(
     rt: &W,
     alloc: Global,
-    gate: &G,
+    gate: &PointGate,
     book: Book,
-    given: Given<'_>,
-) -> Result<(Book, u64), Fail> {
-    searched_by::<Brand, W, G>(rt, alloc, gate, Blank::new(2), book, given)
-}
-
-/// The same for the instance of the book, without prices.
-pub(crate) fn searched<W: Wait, G: Gate>(
-    rt: &W,
-    alloc: Global,
-    gate: &G,
-    book: Book,
-) -> Result<(Book, u64), Fail> {
-    let instance = book.case().instance.copy();
-    let given = Given {
-        instance: &instance,
-        board: None,
-    };
-    searched_as(rt, alloc, gate, book, given)
+    other: Option<Instance>,
+) -> Result<Book, Fail> {
+    let instance = other.unwrap_or(book.case().instance.copy());
+    searched_by::<Brand, W>(rt, alloc, gate, Blank::new(2), book, &instance)
 }
 
 /// A gate that keeps the points at which one worker called it.

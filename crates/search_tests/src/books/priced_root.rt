@@ -1,15 +1,16 @@
 //! The root of the narrow lock, which the cut of its two ships and their prices, or a sweep, close.
 ghost use Rattle.master_branch.specs.Node.{IsNodeOf};
 
-use crate::fixture::NARROW;
 use lock_model::Instance;
 use master_branch::{Node, root};
 use price_bound::{KeptLines, PricedNode, show};
 use price_terms::{ChamberCut, Limits, Prices, Shown, Swept};
 use std::alloc::Global;
-use std::test::Fail;
 use sweep::{SweepAsked, SweepEnd, SweepLimits, SweepOutcome, sweep};
 use worked_locks::{pair, two_ships};
+
+/// The width of a chamber in which two ships don't lie side by side.
+pub(crate) const NARROW: u32 = 232;
 
 const LIMITS: Limits = Limits {
     groups: 100,
@@ -24,13 +25,13 @@ const SWEEP_LIMITS: SweepLimits = SweepLimits {
 };
 
 // The cost that a sweep shows, where it found no cheaper plan.
-fn swept_of(end: SweepEnd<'_>) -> Result<Swept<'_>, Fail> {
+fn swept_of(end: SweepEnd<'_>) -> Option<Swept<'_>> {
     match end {
-        SweepEnd::Swept(swept) => Ok(swept),
+        SweepEnd::Swept(swept) => Some(swept),
         SweepEnd::Cheaper {
             plan: _plan,
             swept: _swept,
-        } => Err("not swept".into()),
+        } => None,
     }
 }
 
@@ -67,18 +68,21 @@ impl PricedRoot {
     }
 
     /// That it reaches this cost.
-    pub(crate) fn shown(&self, alloc: Global, cost: u64) -> Result<Shown<'_>, Fail> {
+    pub(crate) fn shown(&self, alloc: Global, cost: u64) -> Option<Shown<'_>> {
         let asked = PricedNode {
             instance: &self.instance,
             node: &self.node,
             prices: &self.prices,
             cuts: &self.cuts,
         };
-        Ok(show(&mut KeptLines::new(alloc), &asked, cost, LIMITS)?.ok_or("not shown")?)
+        match show(&mut KeptLines::new(alloc), &asked, cost, LIMITS) {
+            Ok(shown) => shown,
+            Err(_) => None,
+        }
     }
 
     /// That its cut leaves no uncut plan below this cost.
-    pub(crate) fn swept(&self, alloc: Global, cost: u64) -> Result<Swept<'_>, Fail> {
+    pub(crate) fn swept(&self, alloc: Global, cost: u64) -> Option<Swept<'_>> {
         let asked = SweepAsked {
             instance: &self.instance,
             cuts: &self.cuts,
@@ -87,7 +91,9 @@ impl PricedRoot {
             first: cost,
             goal: cost,
         };
-        let SweepOutcome { end, .. } = sweep(alloc, &asked, SWEEP_LIMITS)?;
-        swept_of(end.ok_or("too many labels")?)
+        match sweep(alloc, &asked, SWEEP_LIMITS) {
+            Ok(SweepOutcome { end, .. }) => swept_of(end?),
+            Err(_) => None,
+        }
     }
 }

@@ -1,16 +1,13 @@
 //! What books answer, in words and numbers.
 
-use crate::fixture::{both, one_after_the_other, row_cut};
-use crate::priced_root::{PricedRoot, both_prices};
+use super::plans::{both, one_after_the_other, row_cut};
+use super::priced_root::{PricedRoot, both_prices};
 use book_core::{Book, Refusal, Reply};
-use book_rules::SlotState;
 use closing_rules::Ground;
+use lock_model::Verdict;
 use std::alloc::Global;
-use std::process::Abort;
-use std::test::Fail;
 
 /// What is asked of a book.
-#[derive(Clone, Copy)]
 pub(crate) enum Ask {
     Take(u8),
     Split(u32),
@@ -30,58 +27,56 @@ pub(crate) enum Ask {
     Both,
     /// The plan of one ship from minute 0, and the other from this minute.
     After(u32),
+    /// The low that is told, or the cost where it is the least, and how many nodes are used.
+    Low,
+    /// The number of the prices that show the most of a slot, and that cost.
+    Shown(u32),
+    /// How many events were accepted.
+    Events,
 }
 
-/// A reply's word and its numbers; of a node the slot and the depth.
+/// A word and its numbers: those of a reply; of a node the slot and the depth.
 pub(crate) type Told = (&'static str, u64, u64);
 
-fn closed_swept(alloc: Global, book: &mut Book, id: u32, cost: u64) -> Result<Reply, Fail> {
-    let root = PricedRoot::new().ok_or("no root")?;
+fn priced(book: &mut Book, price: u32) -> Option<Reply> {
+    Some(book.post_prices(&both_prices(price)?))
+}
+
+fn posted(alloc: Global, book: &mut Book, gap: u32) -> Option<Reply> {
+    Some(book.post(row_cut(alloc, gap)?))
+}
+
+fn closed_swept(alloc: Global, book: &mut Book, id: u32, cost: u64) -> Option<Reply> {
+    let root = PricedRoot::new()?;
     let swept = root.swept(alloc, cost)?;
-    Ok(book.close_swept(id, 0, &swept))
+    Some(book.close_swept(id, 0, &swept))
 }
 
-fn shown_low(
-    alloc: Global,
-    book: &mut Book,
-    id: u32,
-    number: u64,
-    cost: u64,
-) -> Result<Reply, Fail> {
-    let root = PricedRoot::new().ok_or("no root")?;
+fn shown_low(alloc: Global, book: &mut Book, id: u32, number: u64, cost: u64) -> Option<Reply> {
+    let root = PricedRoot::new()?;
     let shown = root.shown(alloc, cost)?;
-    Ok(book.show_low(id, number, &shown))
-}
-
-fn posted(alloc: Global, book: &mut Book, gap: u32) -> Result<Reply, Fail> {
-    let cut = row_cut(alloc, gap)?;
-    Ok(book.post(cut))
-}
-
-fn priced(book: &mut Book, price: u32) -> Result<Reply, Fail> {
-    let prices = both_prices(price).ok_or("no prices")?;
-    Ok(book.post_prices(&prices))
+    Some(book.show_low(id, number, &shown))
 }
 
 // The reply to what takes nothing but numbers.
-fn plain_reply(book: &mut Book, ask: Ask) -> Reply {
+fn plain_reply(book: &mut Book, ask: &Ask) -> Reply {
     match ask {
-        Ask::Split(id) => book.split(id),
-        Ask::Close(id, why) => book.close(id, why),
-        Ask::Release(worker) => book.release(worker.min(8)),
-        Ask::Take(worker) => book.take(worker.min(8)),
-        Ask::After(start) => book.replace(one_after_the_other(start)),
+        Ask::Split(id) => book.split(*id),
+        Ask::Close(id, why) => book.close(*id, *why),
+        Ask::Release(worker) => book.release((*worker).min(8)),
+        Ask::Take(worker) => book.take((*worker).min(8)),
+        Ask::After(start) => book.replace(one_after_the_other(*start)),
         _ => book.replace(both()),
     }
 }
 
-fn reply_of(alloc: Global, book: &mut Book, ask: Ask) -> Result<Reply, Fail> {
+fn reply_of(alloc: Global, book: &mut Book, ask: &Ask) -> Option<Reply> {
     match ask {
-        Ask::Post(gap) => posted(alloc, book, gap),
-        Ask::Prices(price) => priced(book, price),
-        Ask::CloseSwept(id, cost) => closed_swept(alloc, book, id, cost),
-        Ask::ShowLow(id, number, cost) => shown_low(alloc, book, id, number, cost),
-        _ => Ok(plain_reply(book, ask)),
+        Ask::Post(gap) => posted(alloc, book, *gap),
+        Ask::Prices(price) => priced(book, *price),
+        Ask::CloseSwept(id, cost) => closed_swept(alloc, book, *id, *cost),
+        Ask::ShowLow(id, number, cost) => shown_low(alloc, book, *id, *number, *cost),
+        _ => Some(plain_reply(book, ask)),
     }
 }
 
@@ -107,7 +102,7 @@ fn told_refusal(why: &Refusal) -> Told {
     }
 }
 
-fn told(reply: &Reply) -> Told {
+fn told_reply(reply: &Reply) -> Told {
     match reply {
         Reply::Node(id, node) => ("Node", *id as u64, node.depth() as u64),
         Reply::Made(count) => ("Made", *count as u64, 0),
@@ -122,24 +117,28 @@ fn told(reply: &Reply) -> Told {
     }
 }
 
-/// The book answers each of these so, one after the other.
-pub(crate) fn expect(
-    rt: &impl Abort,
-    alloc: Global,
-    book: &mut Book,
-    asks: &[(Ask, Told)],
-) -> Result<(), Fail> {
-    for &(ask, answer) in asks {
-        let reply = reply_of(alloc, book, ask)?;
-        assert!(rt; told(&reply) == answer);
+fn low_of(book: &Book) -> Told {
+    let used = book.used() as u64;
+    match book.verdict() {
+        Verdict::OpenNodes { low, .. } => ("low", low, used),
+        Verdict::Optimal => ("optimal", book.best_cost(), used),
+        _ => ("another", 0, used),
     }
-    Ok(())
 }
 
-/// So many events were accepted, and the slots have these states.
-pub(crate) fn expect_end(rt: &impl Abort, book: &Book, events: u64, states: &[SlotState]) {
-    assert!(rt; (book.history_len(), book.slots() as usize) == (events, states.len()));
-    for id in 0..book.slots() {
-        assert!(rt; book.slot_state(id) == states.get(id as usize).copied());
+fn shown_of(book: &Book, id: u32) -> Told {
+    match book.shown_low(id) {
+        Some(shown) => ("shown", shown.prices, shown.cost),
+        None => ("none", 0, 0),
+    }
+}
+
+/// What a book answers.
+pub(crate) fn told(alloc: Global, book: &mut Book, ask: &Ask) -> Option<Told> {
+    match ask {
+        Ask::Low => Some(low_of(book)),
+        Ask::Shown(id) => Some(shown_of(book, *id)),
+        Ask::Events => Some(("events", book.history_len(), 0)),
+        _ => Some(told_reply(&reply_of(alloc, book, ask)?)),
     }
 }

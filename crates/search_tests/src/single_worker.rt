@@ -1,4 +1,0 @@
-//! One worker alone.
-mod alone;
-mod fixture;
-mod hitting;
