@@ -226,19 +226,24 @@ def judged(text):
 # Reports (formats.md, Report) ----------------------------------------------------------------------------------------
 
 LOCKAGE_LINE = re.compile(rb"lockage \d+ chamber (\S+) (up|down) start (\d+) end \d+$")
-SHIP_LINE = re.compile(rb"  [A-H] (\S+) x (\d+) y (\d+) (left|right) (?:quay|at ([A-H])) flow \d+$")
+SHIP_LINE = re.compile(rb"  ([A-H]) (\S+) x (\d+) y (\d+) (left|right) (?:quay|at ([A-H])) flow \d+$")
 
 
 def plan_of_report(lines, instance):
-    """The plan of a report of this instance."""
-    plan = []
+    """The plan of a report of this instance, in which lines go by the order of mooring and letters by the ships' numbers."""
+    plan, lettered = [], []
     for line in lines:
         head, ship = LOCKAGE_LINE.match(line), SHIP_LINE.match(line)
         if head:
             plan.append(Lockage(named(head[1], instance.chambers), [], [], int(head[3]), WAYS.index(head[2])))
+            lettered.append({})
         elif ship:
-            plan[-1].ships.append(named(ship[1], instance.ships))
-            plan[-1].spots.append(Spot(int(ship[2]), int(ship[3]), RANKS.index(ship[4]), ord(ship[5]) - 64 if ship[5] else 0))
+            spot = Spot(int(ship[3]), int(ship[4]), RANKS.index(ship[5]), ord(ship[6]) - 64 if ship[6] else 0)
+            lettered[-1][ship[1]] = named(ship[2], instance.ships), spot
+    for lockage, ships in zip(plan, lettered):
+        for _, (number, spot) in sorted(ships.items()):
+            lockage.ships.append(number)
+            lockage.spots.append(spot)
     return plan
 
 
