@@ -1,5 +1,5 @@
 -- Lists of prices are read back, and read one after the other.
-use Rattle.std.proofs.Common.{◌≡◌, ◌∙◌, ◌<◌, ◌≤◌, ℕ, Bool, true, false, cond, List, [], ◌∷◌, Option, Some, None, refl, sym, ap, arith, length, map, All}
+use Rattle.std.proofs.Common.{◌≡◌, ◌∙◌, ◌<◌, ◌≤◌, ℕ, Bool, true, false, cond, List, [], ◌∷◌, Option, Some, None, refl, sym, ap, subst, arith, length, map, All}
 use Rattle.std.specs.Prelude.{not, ◌==◌}
 use Rattle.std.proofs.Math.Bool.{and-false}
 use Rattle.std.proofs.lemmas.Bool.{and_from, true≢false}
@@ -52,6 +52,14 @@ two_keys p = refl
 -- What is written of the triples is read as them.
 pub record HasTriplesBack (prices : PriceList) : Type 0 where
   pub back : all_in triple_in (items_of (map triple_data prices.triples)) ≡ Some prices.triples
+
+-- prices that are seen in two parts
+pub back_of : (p : PriceList) (triples : List Triple) → triples ≡ p.triples → all_in triple_in (items_of (map triple_data triples)) ≡ Some triples → HasTriplesBack p
+back_of p triples same back = record { back = subst (λ ts. all_in triple_in (items_of (map triple_data ts)) ≡ Some ts) same back }
+
+pub data_of : (p : PriceList) (ships : List ℕ) (triples : List Triple) → ships ≡ p.ships → triples ≡ p.triples → prices_data (record { ships = ships; triples = triples }) ≡ prices_data p
+data_of p ships triples same_ships same_triples =
+    ap (λ own. prices_data (record { ships = own; triples = triples })) same_ships ∙ ap (λ own. prices_data (record { ships = p.ships; triples = own })) same_triples
 
 one_back : (most : ℕ) (version : Version) (p : PriceList) → (has_triples version ≡ false → not (length p.triples == 0) ≡ false) → AreFormedPrices most p → HasTriplesBack p → prices_in most version (prices_data p) ≡ Some p
 one_back most version p suits formed triples = go (has_triples version) p.triples refl suits formed.1.triples triples.back

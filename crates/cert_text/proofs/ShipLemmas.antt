@@ -1,5 +1,6 @@
 -- Reading ships one after the other.
-use Rattle.std.proofs.Common.{◌≡◌, ◌∙◌, ◌++◌, ◌<◌, ◌≤◌, ℕ, suc, true, false, List, [], ◌∷◌, Option, Some, None, refl, sym, ap, arith, length, map}
+use Rattle.std.proofs.Common.{◌≡◌, ◌∙◌, ◌++◌, ◌+◌, ◌<◌, ◌≤◌, ℕ, suc, true, false, List, [], ◌∷◌, Option, Some, None, refl, sym, ap, subst, arith, append_assoc, length, map, All}
+use Rattle.std.proofs.lemmas.List.Elements.{All-append, All-cons, All-nil}
 use Rattle.std.proofs.Math.Bool.{and-false}
 use Rattle.std.specs.Prelude.{◌&&◌, nat_le}
 use Rattle.std.proofs.lemmas.Bool.Decides.{nat_tests}
@@ -18,6 +19,24 @@ use Rattle.cert_text.proofs.ListLemmas.{all_in-length}
 -- whatever follows, the ships rise exactly where those that follow rise from low
 pub record Rises (ships : List ℕ) (low : ℕ) : Type 0 where
   pub so_far : (more : List ℕ) → rises_from 0 (ships ++ more) ≡ rises_from low more
+
+-- one ship more, at least low
+module _ (ships new : List ℕ) (low s last : ℕ) (above : low ≤ s) (same : last ≡ s) (appended : new ≡ ships ++ s ∷ []) where
+  pub rises_more : Rises ships low → Rises new (last + 1)
+  rises_more rises =
+      let test : nat_le low s ≡ true = grind (arith, nat_tests) in
+      let up : suc s ≡ last + 1 = omega (arith, same) in
+      record {
+        so_far = λ more.
+            ap (λ xs. rises_from 0 (xs ++ more)) appended ∙ ap (rises_from 0) (append_assoc ships (s ∷ []) more) ∙ rises.so_far (s ∷ more)
+            ∙ ap (λ b. b && rises_from (suc s) more) test ∙ ap (λ n. rises_from n more) up;
+      }
+
+  pub below_more : All (λ x. x < low) ships → All (λ x. x < last + 1) new
+  below_more below =
+      let each : All (λ x. x < last + 1) ships = λ k d less. (let own = below k d less in omega (arith, own, above, same)) in
+      let one : s < last + 1 = omega (arith, same) in
+      subst (All (λ x. x < last + 1)) (sym appended) (All-append (λ x. x < last + 1) ships (s ∷ []) each (All-cons (λ x. x < last + 1) s [] one (All-nil (λ x. x < last + 1))))
 
 abbrev if_rising : Option (List ℕ) → Option (List ℕ)
 if_rising o = o >>= λ ships. when (are_rising ships) >> Some ships

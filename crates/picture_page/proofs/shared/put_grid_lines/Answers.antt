@@ -1,0 +1,15 @@
+use Rattle.std.proofs.Common.{None, ◌++◌, get_or, ap, ◌∙◌}
+use Rattle.plan_print.proofs.TextLemmas.{flat_map_take_more}
+use Rattle.picture_page.specs.Shared.{grid_line}
+use Rattle.picture_page.specs.declared.ticks.Tick.{Tick}
+use Rattle.picture_page.proofs.shared.put_grid_lines.Goals as goal
+
+pub loop-tick-preserved : goal.loop-tick-preserved
+loop-tick-preserved c =
+    let shown = grid_line c.args.height in
+    let xs = c.args.ticks.now in
+    let i = c.loop-tick.tick-index in
+    let first : Tick = record { minute = 0; x = 0; label = None } in
+    c.in_ok-put_grid_line.ensures
+    ∙ ap (λ t. t ++ shown (get_or xs i first)) c.loop-tick.invariant
+    ∙ flat_map_take_more shown c.args.out.now.items xs i first c.loop-tick-test.true
