@@ -10,6 +10,7 @@ use Rattle.instance_text.specs.declared.format.Format.TheVariants.{First, Second
 use Rattle.line_text.specs.declared.progress.Progress.{Progress}
 use Rattle.line_text.specs.declared.progress.Progress.TheVariants.{More, Ended}
 use Rattle.line_text.specs.Filled.{Filled, first_words}
+use Rattle.line_text.specs.Left.{Left, words_left}
 use Rattle.line_text.specs.Lines.{lines, words, word_at, is_only, line_of_fault}
 use Rattle.line_text.specs.Steps.{◌>>=◌, ◌>>◌, check, proceed}
 use Rattle.instance_text.specs.Draft.{Draft, no_draft, draft_of}
@@ -101,6 +102,16 @@ read_from (Err n) = Err (bad n NoHeader)
 -- the header is the first line with words; n lines stand before these
 abbrev pub read_lines : ℕ → List (List (List ℕ)) → Result Draft Bad
 read_lines n lines = read_from (first_words n lines)
+
+-- the same of the lines that are still to come of a text
+abbrev pub read_rest_left : Draft → Left → Result Draft Bad
+read_rest_left draft l = read_rest l.number draft (words_left l)
+
+abbrev pub read_body_left : Format → Draft → Left → Result Draft Bad
+read_body_left format draft l = read_body format l.number draft (words_left l)
+
+abbrev pub read_lines_left : Left → Result Draft Bad
+read_lines_left l = read_lines l.number (words_left l)
 
 -- the chambers and ships of a text, or its first defect
 unfoldable pub reading : List ℕ → Result Draft Bad

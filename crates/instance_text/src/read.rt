@@ -1,9 +1,8 @@
 //! Reading instance texts.
 ghost use Rattle.std.specs.Prelude.{◌≡◌, ℕ, min, length, map, Ok, Err, IfOk, IfErr, OnOk};
 ghost use Rattle.instance_text.specs.Draft.{Draft as AnyDraft, IsWholeDraft, no_draft, draft_of};
-ghost use Rattle.line_text.specs.Left.{lines_left};
 ghost use Rattle.line_text.specs.Lines.{lines, words};
-ghost use Rattle.instance_text.specs.Reading.{read_lines, read_line, read_body, read_rest, reading, Means, Defect, bad, length_of_part, instance_part, after_instance};
+ghost use Rattle.instance_text.specs.Reading.{read_lines, read_line, read_lines_left, read_body_left, read_rest_left, reading, Means, Defect, bad, length_of_part, instance_part, after_instance};
 ghost use Rattle.instance_text.specs.declared.bad.Kind.{Kind as AnyKind};
 ghost use Rattle.lock_model.specs.declared.instance.Instance.{Instance as AnyInstance};
 
@@ -26,8 +25,8 @@ fn bad(lines: &Lines<'_>, kind: Kind) -> Bad
 
 /// The format of the text, from its first line with words.
 fn read_header(lines: &mut Lines<'_>) -> Result<Format, Bad>
-    ensures read { IfOk result (λ format. read_lines lines.old.number (map words (lines_left lines.old)) ≡ read_body format lines.new.number no_draft (map words (lines_left lines.new))) }
-    ensures bad { IfErr result (λ b. read_lines lines.old.number (map words (lines_left lines.old)) ≡ Err b) }
+    ensures read { IfOk result (λ format. read_lines_left lines.old ≡ read_body_left format no_draft lines.new) }
+    ensures bad { IfErr result (λ b. read_lines_left lines.old ≡ Err b) }
 {
     let Some(line) = lines.next_filled() else {
         return Err(bad(lines, Kind::NoHeader));
@@ -49,9 +48,9 @@ fn read_words(format: Format, draft: &mut Draft, line: &[u8]) -> Result<Progress
 
 /// Reads the lines from the header up to `end` into the draft.
 fn read_body(format: Format, draft: &mut Draft, lines: &mut Lines<'_>) -> Result<(), Bad>
-    ensures read { OnOk result (read_body format lines.old.number draft.old (map words (lines_left lines.old)) ≡ read_rest lines.new.number draft.new (map words (lines_left lines.new))) }
+    ensures read { OnOk result (read_body_left format draft.old lines.old ≡ read_rest_left draft.new lines.new) }
     ensures whole { OnOk result (IsWholeDraft draft.new) }
-    ensures bad { IfErr result (λ b. read_body format lines.old.number draft.old (map words (lines_left lines.old)) ≡ Err b) }
+    ensures bad { IfErr result (λ b. read_body_left format draft.old lines.old ≡ Err b) }
 {
     while let Some(line) = lines.next() {
         match read_words(format, draft, line) {
@@ -65,8 +64,8 @@ fn read_body(format: Format, draft: &mut Draft, lines: &mut Lines<'_>) -> Result
 
 /// Refuses a line with words after `end`.
 fn read_rest(lines: &mut Lines<'_>) -> Result<(), Bad>
-    ensures read { IfOk result (λ _. (draft : AnyDraft) → read_rest lines.old.number draft (map words (lines_left lines.old)) ≡ Ok draft) }
-    ensures bad { IfErr result (λ b. (draft : AnyDraft) → read_rest lines.old.number draft (map words (lines_left lines.old)) ≡ Err b) }
+    ensures read { IfOk result (λ _. (draft : AnyDraft) → read_rest_left draft lines.old ≡ Ok draft) }
+    ensures bad { IfErr result (λ b. (draft : AnyDraft) → read_rest_left draft lines.old ≡ Err b) }
 {
     match lines.next_filled() {
         Some(_) => Err(bad(lines, Kind::Word)),

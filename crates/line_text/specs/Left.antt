@@ -1,6 +1,6 @@
 -- What is still to come of a text, line by line.
-use Rattle.std.specs.Prelude.{ℕ, ◌+◌, List, [], length, Option, None, Some}
-use Rattle.line_text.specs.Lines.{lines}
+use Rattle.std.specs.Prelude.{ℕ, ◌+◌, List, [], length, map, Option, None, Some}
+use Rattle.line_text.specs.Lines.{lines, words}
 
 -- the bytes after the lines that were taken, and how many were taken; after the last line there are no bytes
 pub record Left : Type 0 where
@@ -22,6 +22,10 @@ size_in (Some bytes) = length bytes + 1
 -- the lines that are still to come
 abbrev pub lines_left : Left → List (List ℕ)
 lines_left l = lines_in l.bytes
+
+-- the same, each by its words
+abbrev pub words_left : Left → List (List (List ℕ))
+words_left l = map words (lines_left l)
 
 -- all bytes after the lines that were taken
 abbrev pub bytes_left : Left → List ℕ

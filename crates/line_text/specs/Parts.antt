@@ -10,10 +10,14 @@ abbrev pub separates : Separator → ℕ → Bool
 separates LineFeed b = is_line_feed b
 separates Blank b = is_blank b
 
+-- bytes cut at each separator
+abbrev pub parts_of : Separator → List ℕ → List (List ℕ)
+parts_of separator bytes = slice_split (separates separator) bytes
+
 -- the parts of what is left, if anything is
 abbrev pub parts_left : Option (Bor (List ℕ)) → Separator → List (List ℕ)
 parts_left None separator = []
-parts_left (Some bytes) separator = slice_split (separates separator) bytes.now
+parts_left (Some bytes) separator = parts_of separator bytes.now
 
 -- how many bytes and ends of parts are left
 abbrev pub room_left : Option (Bor (List ℕ)) → ℕ

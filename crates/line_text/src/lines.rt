@@ -1,5 +1,5 @@
 //! The lines of a text, counted from 1.
-ghost use Rattle.std.specs.Prelude.{◌≡◌, ◌+◌, [], ◌∷◌, ◌==◌, length, map, Ok, Err, IfSome, IfNone};
+ghost use Rattle.std.specs.Prelude.{◌≡◌, ◌+◌, [], ◌∷◌, ◌==◌, length, Ok, Err, IfSome, IfNone};
 ghost use Rattle.line_text.specs.Lines.{lines, words};
 
 use crate::parts::{Parts, Separator};
@@ -26,8 +26,8 @@ impl<'a> Model for Lines<'a> {
 }
 
 impl<'a> Lines<'a> {
-    ghost use Rattle.line_text.specs.Left.{lines_left, bytes_left, size_left};
-    ghost use Rattle.line_text.specs.Filled.{first_line, first_words};
+    ghost use Rattle.line_text.specs.Left.{lines_left, words_left, bytes_left, size_left};
+    ghost use Rattle.line_text.specs.Filled.{first_line, first_words, taken_line, taken_words};
 
     /// The lines of a text.
     #[tactic(auto, using(crate::proofs::LeftLemmas::all_left))]
@@ -59,10 +59,10 @@ impl<'a> Lines<'a> {
 
     /// The next line that has words, without its line feed. Where no line has, all are taken.
     pub fn next_filled(&mut self) -> Option<&'a [u8]>
-        ensures line { IfSome result (λ line. first_line self.old.number (lines_left self.old) ≡ Ok (record { number = self.new.number; line = line.now; more = lines_left self.new })) }
-        ensures words { IfSome result (λ line. first_words self.old.number (map words (lines_left self.old)) ≡ Ok (record { number = self.new.number; line = words line.now; more = map words (lines_left self.new) })) }
+        ensures line { IfSome result (λ line. first_line self.old.number (lines_left self.old) ≡ Ok (taken_line line.now self.new)) }
+        ensures words { IfSome result (λ line. first_words self.old.number (words_left self.old) ≡ Ok (taken_words line.now self.new)) }
         ensures no_line { IfNone result (first_line self.old.number (lines_left self.old) ≡ Err self.new.number) }
-        ensures no_words { IfNone result (first_words self.old.number (map words (lines_left self.old)) ≡ Err self.new.number) }
+        ensures no_words { IfNone result (first_words self.old.number (words_left self.old) ≡ Err self.new.number) }
     {
         while let Some(line) = self.next() {
             if !is_blank(line) {

@@ -1,7 +1,6 @@
 //! The parts of bytes between separators, one after the other.
 ghost use Rattle.std.specs.Prelude.{◌≡◌, ◌<◌, ◌≤◌, [], ◌∷◌, length, IfSome, IfNone, take, drop, ◌+◌, Some};
-ghost use Rattle.std.specs.List.{slice_split};
-ghost use Rattle.line_text.specs.Parts.{separates, parts_left, room_left, now_left, rest_left};
+ghost use Rattle.line_text.specs.Parts.{separates, parts_of, parts_left, room_left, now_left, rest_left};
 
 /// Where bytes are cut.
 #[derive(Clone, Copy, PartialEq, Eq)]
@@ -27,8 +26,8 @@ impl Separator {
 /// The place of the first separator.
 fn first(bytes: &[u8], separator: Separator) -> Option<usize>
     ensures some { IfSome result (λ i. i < length bytes.now) }
-    ensures found { IfSome result (λ i. slice_split (separates separator) bytes.now ≡ take i bytes.now ∷ slice_split (separates separator) (drop (i + 1) bytes.now)) }
-    ensures none { IfNone result (slice_split (separates separator) bytes.now ≡ bytes.now ∷ []) }
+    ensures found { IfSome result (λ i. parts_of separator bytes.now ≡ take i bytes.now ∷ parts_of separator (drop (i + 1) bytes.now)) }
+    ensures none { IfNone result (parts_of separator bytes.now ≡ bytes.now ∷ []) }
 {
     for (i, byte) in bytes.iter().enumerate() {
         if separator.is(*byte) {
@@ -48,7 +47,7 @@ pub struct Parts<'a> {
 impl<'a> Parts<'a> {
     /// The parts of these bytes.
     pub fn new(bytes: &'a [u8], separator: Separator) -> Parts<'a>
-        ensures parts { parts_left result.left result.separator ≡ slice_split (separates separator) bytes.now }
+        ensures parts { parts_left result.left result.separator ≡ parts_of separator bytes.now }
         ensures room { room_left result.left ≡ length bytes.now + 1 }
         ensures whole { now_left result.left ≡ Some bytes.now }
         ensures kind { result.separator ≡ separator }

@@ -5,6 +5,7 @@ use Rattle.lock_model.specs.declared.instance.Instance.{Instance}
 use Rattle.lock_model.specs.declared.plan.Lockage.{Lockage}
 use Rattle.lock_model.specs.declared.plan.Plan.{Plan}
 use Rattle.line_text.specs.Filled.{Filled, first_words}
+use Rattle.line_text.specs.Left.{Left, words_left}
 use Rattle.line_text.specs.Lines.{lines, words, is_only, line_of_fault}
 use Rattle.line_text.specs.Steps.{◌>>=◌, proceed}
 use Rattle.plan_text.specs.declared.kinds.BadPlan.{BadPlan}
@@ -44,6 +45,16 @@ read_from I (Err n) = Err (bad n NoMark)
 -- the first line with words is `plan`; n lines stand before these
 abbrev pub read_lines : Instance → ℕ → List (List (List ℕ)) → Result (List Lockage) BadPlan
 read_lines I n lines = read_from I (first_words n lines)
+
+-- the same of the lines that are still to come of a text
+abbrev pub read_rest_left : List Lockage → Left → Result (List Lockage) BadPlan
+read_rest_left lockages l = read_rest l.number lockages (words_left l)
+
+abbrev pub read_body_left : Instance → Draft → Left → Result (List Lockage) BadPlan
+read_body_left I draft l = read_body I l.number draft (words_left l)
+
+abbrev pub read_lines_left : Instance → Left → Result (List Lockage) BadPlan
+read_lines_left I l = read_lines I l.number (words_left l)
 
 -- the lockages of a text, or its first fault
 unfoldable pub reading : Instance → List ℕ → Result (List Lockage) BadPlan

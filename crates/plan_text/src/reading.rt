@@ -1,6 +1,5 @@
 //! Reading plan texts.
 ghost use Rattle.std.specs.Prelude.{◌≡◌, List, ℕ, map, Ok, Err, IfOk, IfErr, OnOk};
-ghost use Rattle.line_text.specs.Left.{lines_left};
 ghost use Rattle.line_text.specs.Lines.{lines, words};
 ghost use Rattle.lock_model.specs.declared.plan.Lockage.{Lockage as AnyLockage};
 ghost use Rattle.lock_model.specs.declared.plan.Plan.{Plan as AnyPlan};
@@ -8,7 +7,7 @@ ghost use Rattle.plan_text.specs.declared.kinds.PlanKind.{PlanKind as AnyKind};
 ghost use Rattle.plan_text.specs.Draft.{no_draft};
 ghost use Rattle.plan_text.specs.Lines.{read_line};
 ghost use Rattle.plan_text.specs.Faults.{bad};
-ghost use Rattle.plan_text.specs.Reading.{read_lines, read_body, read_rest, without_end, reading, IsPlanText, IsPlanFault};
+ghost use Rattle.plan_text.specs.Reading.{read_lines, read_lines_left, read_body_left, read_rest_left, without_end, reading, IsPlanText, IsPlanFault};
 
 use crate::draft::Draft;
 use crate::kinds::{BadPlan, PlanKind, bad};
@@ -37,8 +36,8 @@ fn check_text(instance: &Instance, bytes: &[u8]) -> Result<(), BadPlan>
 
 /// The line `plan`.
 fn read_mark(instance: &Instance, lines: &mut Lines<'_>) -> Result<(), BadPlan>
-    ensures read { OnOk result (read_lines instance.now lines.old.number (map words (lines_left lines.old)) ≡ read_body instance.now lines.new.number no_draft (map words (lines_left lines.new))) }
-    ensures bad { IfErr result (λ b. read_lines instance.now lines.old.number (map words (lines_left lines.old)) ≡ Err b) }
+    ensures read { OnOk result (read_lines_left instance.now lines.old ≡ read_body_left instance.now no_draft lines.new) }
+    ensures bad { IfErr result (λ b. read_lines_left instance.now lines.old ≡ Err b) }
 {
     let Some(line) = lines.next_filled() else {
         return Err(bad_line(lines, PlanKind::NoMark));
@@ -75,8 +74,8 @@ fn without_end(instance: &Instance, draft: &mut Draft, lines: &Lines<'_>) -> Bad
 
 /// Reads the lines from the line `plan` up to `end` into the draft.
 fn read_body(instance: &Instance, draft: &mut Draft, lines: &mut Lines<'_>) -> Result<(), BadPlan>
-    ensures read { OnOk result (read_body instance.now lines.old.number draft.old (map words (lines_left lines.old)) ≡ read_rest lines.new.number draft.new.lockages (map words (lines_left lines.new))) }
-    ensures bad { IfErr result (λ b. read_body instance.now lines.old.number draft.old (map words (lines_left lines.old)) ≡ Err b) }
+    ensures read { OnOk result (read_body_left instance.now draft.old lines.old ≡ read_rest_left draft.new.lockages lines.new) }
+    ensures bad { IfErr result (λ b. read_body_left instance.now draft.old lines.old ≡ Err b) }
 {
     while let Some(line) = lines.next() {
         match read_words(instance, lines.number(), draft, line)? {
@@ -89,8 +88,8 @@ fn read_body(instance: &Instance, draft: &mut Draft, lines: &mut Lines<'_>) -> R
 
 /// Refuses a line with words after `end`.
 fn read_rest(lines: &mut Lines<'_>) -> Result<(), BadPlan>
-    ensures read { OnOk result ((ls : List AnyLockage) → read_rest lines.old.number ls (map words (lines_left lines.old)) ≡ Ok ls) }
-    ensures bad { IfErr result (λ b. (ls : List AnyLockage) → read_rest lines.old.number ls (map words (lines_left lines.old)) ≡ Err b) }
+    ensures read { OnOk result ((ls : List AnyLockage) → read_rest_left ls lines.old ≡ Ok ls) }
+    ensures bad { IfErr result (λ b. (ls : List AnyLockage) → read_rest_left ls lines.old ≡ Err b) }
 {
     match lines.next_filled() {
         Some(_) => Err(bad_line(lines, PlanKind::Word)),
