@@ -1,4 +1,3 @@
-pub mod Rows
 pub mod NameLemmas
 pub mod ClosureLemmas
 pub mod ClosingLemmas

@@ -79,10 +79,6 @@ keeps_itself K M early = record { lines = λ c. all-before M (line_of K c) (All-
 -- ---- the rest that is asked for
 
 module _ (I : Instance) (G : Plan) where
-  pub keep_can : (D : DayRest) → CanKeep I G D → CanBeKept I (kept_for G D)
-  keep_can (Known M) can = can
-  keep_can (Lived M) can = can.kept
-
   pub for_chambers : (D : DayRest) (R : Instance) → CanKeep I G D → IsRestFor I G D R → length R.chambers ≡ length I.chambers
   for_chambers (Known M) R can rest = rest-chambers I R (kept_of G M) M rest
   for_chambers (Lived M) R can rest = lived-count I R G M can rest

@@ -19,14 +19,13 @@ use Rattle.sweep_rules.proofs.MissingLemmas.{missing-one, missing-none, missing-
 use Rattle.sweep_rules.proofs.OverLemmas.{sum-but_one}
 use Rattle.sweep_labels.specs.declared.label.Label.{Label as CodeLabel}
 use Rattle.sweep_labels.specs.declared.ready_times.ReadyTimes.{ReadyTimes}
-use Rattle.sweep_labels.specs.Ships.{is_in, IsWith}
 use Rattle.sweep_labels.specs.Labels.{label_of, times_at}
 use Rattle.sweep_labels.specs.Arcs.{IsGainBehind, gains_with}
 use Rattle.sweep_labels.proofs.ArcLemmas.{own-gain, other-gain}
 use Rattle.sweep_labels.specs.declared.step.Arc.{Arc}
 use Rattle.sweep_arcs.specs.declared.asked.ArcsAsked.{ArcsAsked}
 use Rattle.sweep_arcs.specs.declared.lane.Lane.{Lane}
-use Rattle.sweep_arcs.specs.Lanes.{ask_of, IsLane, IsSameLane, HasGain, HasArcs}
+use Rattle.sweep_arcs.specs.Lanes.{ask_of, IsSameLane, HasGain, HasArcs}
 use Rattle.sweep.specs.declared.sweep_case.SweepCase.{SweepCase}
 use Rattle.sweep.specs.declared.origin.Origin.{Origin}
 use Rattle.sweep.specs.Bounds.{cuts_of, AreLanesFrom, AreLanesOf, AreSameLanes, AreArcsAsked, gain_in, AreGainsTo, IsRoom}
@@ -60,23 +59,6 @@ module _ (f : ℕ → ℕ) (p : ℕ → Bool) (n : ℕ) where
     where
       none : sum_by f [] ≡ 0
       none = refl
-
--- all ships but the late ones, and one ship more, late or not
-module _ (late old n : ℕ) (before : (s : ℕ) → s < n → is_in old s ≡ not (is_in late s)) (past : (s : ℕ) → n ≤ s → is_in old s ≡ false) where
-  pub but_in : (new : ℕ) → is_in late n ≡ false → IsWith old n new → (s : ℕ) → s < n + 1 → is_in new s ≡ not (is_in late s)
-  but_in new out more s less = elim (eqb_tells s n) [
-    | inl y ↦ subst (λ s. is_in new s ≡ not (is_in late s)) (sym y.1) (more.own ∙ ap not (sym out))
-    | inr m ↦ more.others s m.1 ∙ before s (omega (arith, less, m.1))
-  ]
-
-  pub but_out : is_in late n ≡ true → (s : ℕ) → s < n + 1 → is_in old s ≡ not (is_in late s)
-  but_out is s less = elim (eqb_tells s n) [
-    | inl y ↦ subst (λ s. is_in old s ≡ not (is_in late s)) (sym y.1) (past n (omega arith) ∙ ap not (sym is))
-    | inr m ↦ before s (omega (arith, less, m.1))
-  ]
-
-  pub past_in : (new : ℕ) → IsWith old n new → (s : ℕ) → n + 1 ≤ s → is_in new s ≡ false
-  past_in new more s above = more.others s (λ same. absurd (omega (arith, above, same))) ∙ past s (omega (arith, above))
 
 -- a ship of the instance is missing where it isn't served, and no other number is
 module _ (I : Instance) (served : ℕ → Bool) (s : ℕ) where
@@ -148,9 +130,6 @@ lanes_on I cuts prices first n old new are same = record {
 module _ (case : SweepCase) (lanes : List Lane) (first c : ℕ) (old : Lane) (are : AreLanesOf case first lanes) (known : c < length case.instance.now.chambers) (here : (d : Lane) → slice_index_or lanes (first + c) d ≡ old) where
   own-ask : ask_of old ≡ line_ask case.instance.now c (cuts_of case) 0 case.prices.now []
   own-ask = ap ask_of (sym (here old)) ∙ (are.each c old known).ask
-
-  pub lane_is : IsLane old
-  lane_is = subst IsLane (here old) (are.each c old known).is
 
   pub lane_gain : (times : ReadyTimes) (gain : ℕ) → HasGain (ask_of old) times gain → IsGainBehind case.instance.now (cuts_of case) case.prices.now c times gain
   lane_gain times gain has = (subst (λ (ask : LineAsk). HasGain ask times gain) own-ask has).is

@@ -7,13 +7,18 @@ const FEW_LABELS: u64 = 4_000;
 const MANY_LABELS: u64 = 100_000;
 
 /// Costs, in minutes, up to a last one. What a sweep takes hangs on how far its cost is above what prices
-/// bound, so it is that distance that rises: last by so much, before which so many labels were made.
+/// bound, so it is that distance that rises.
 #[derive(Clone, Copy)]
 pub(crate) struct Goals {
+    // What prices bound, in minutes.
     low: u64,
+    // How far above that the next cost is, in minutes.
     distance: u64,
+    // The last cost, in minutes.
     last: u64,
+    // By how many minutes the distance rose last.
     farther: u64,
+    // How many labels were made for the cost before that rise; 0 until a second cost is swept.
     before: u64,
 }
 

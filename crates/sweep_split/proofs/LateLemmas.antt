@@ -1,4 +1,4 @@
--- Late costs of sweeps: where all labels of a sweep of the late ships are treated, its goal is a late cost.
+-- Sweeps of late ships: what one begins with has all completions of them, and where all its labels are treated none ends below its goal.
 use Rattle.std.proofs.Common.{ℕ, zero, suc, ◌+◌, ◌<◌, ◌≤◌, not, Bool, cond, List, length, inl, inr, sym, ap, ◌∙◌, subst, arith}
 use Rattle.lock_model.specs.declared.instance.Instance.{Instance}
 use Rattle.lock_model.specs.declared.way.Way.{Way}
@@ -10,7 +10,7 @@ use Rattle.sweep_rules.specs.Treated.{label_at, missing_count, IsMet, IsTreated}
 use Rattle.sweep_rules.proofs.GainLemmas.{way_on-fewer}
 use Rattle.sweep_rules.proofs.OverLemmas.{completion-on}
 use Rattle.sweep_rules.proofs.ReadyLemmas.{start-ready, lawful-others, way_on-head}
-use Rattle.sweep_split.specs.Split.{late_label, IsLateLabel, HasLateCost}
+use Rattle.sweep_split.specs.Split.{late_label, IsLateLabel}
 
 module _ (I : Instance) (cuts : List PlainCut) where
   -- what a sweep of the late ships begins with has all completions of them
@@ -48,10 +48,6 @@ module _ (I : Instance) (cuts : List PlainCut) where
     none-below zero k within few ends = none-later zero (λ k within less ends. absurd (omega (arith, less))) (length labels) k within few (omega arith) ends
     none-below (suc m) k within few ends = none-later (suc m) (λ k within less ends. none-below m k within (omega (arith, less)) ends) (length labels) k within few (omega arith) ends
 
-    -- where all labels are treated, a label that is met has no completion of a total below the goal,
+    -- where all labels are treated, a label that is met has no completion of a total below the goal
     pub treated-none : (label : Label) → IsMet I cuts goal labels label → EndsBelow I cuts goal label → ⊥
     treated-none label met ends = let one = met.by goal (omega arith) ends in none-below (missing_count I (label_at labels one.place)) one.place one.within (omega arith) one.ends
-
-    -- SO WHERE ALL LABELS ARE TREATED and a first label of the late ships is met, the goal is a late cost.
-    pub treated-late : (late : ℕ → Bool) (ready : ℕ → Way → ℕ) (first : Label) → IsLateLabel I cuts late ready first → IsMet I cuts goal labels first → HasLateCost I cuts late ready goal
-    treated-late late ready first is met = record { low = λ ends. treated-none first met (late-first late ready first is goal ends) }

@@ -1,5 +1,5 @@
 -- Labels split in two.
-use Rattle.std.proofs.Common.{◌≡◌, ℕ, ◌+◌, ◌-◌, ◌<◌, ◌≤◌, ◌||◌, not, Bool, true, false, cond, List, [], ◌∷◌, length, All, inl, inr, refl, sym, ap, ◌∙◌, subst, arith}
+use Rattle.std.proofs.Common.{◌≡◌, ℕ, ◌+◌, ◌-◌, ◌<◌, ◌≤◌, ◌||◌, not, Bool, true, false, cond, List, [], ◌∷◌, length, All, inl, inr, refl, sym, ap, ◌∙◌, arith}
 use Rattle.std.proofs.lemmas.Bool.Decides.{leb_tells}
 use Rattle.std.proofs.lemmas.List.Elements.{All-weaker}
 use Rattle.lock_model.specs.Fleet.{ship_at, chamber_at}
@@ -15,12 +15,11 @@ use Rattle.lock_rules.proofs.LineLemmas.{sum_by-each, sum_by-plus, numbers-below
 use Rattle.lock_rules.proofs.TraceLemmas.{kept_flow}
 use Rattle.price_rules.specs.Prices.{PlainCut}
 use Rattle.sweep_rules.specs.Uncut.{times_over}
-use Rattle.sweep_rules.specs.Label.{Label, IsWanted, IsReadyFrom}
+use Rattle.sweep_rules.specs.Label.{Label, IsWanted}
 use Rattle.sweep_rules.specs.Completion.{IsCompletion, EndsBelow, flow_starting, flow_completed}
-use Rattle.sweep_rules.specs.Gain.{IsWayOn, timetable_after}
+use Rattle.sweep_rules.specs.Gain.{timetable_after}
 use Rattle.sweep_rules.proofs.FirstLemmas.{flow-starts}
 use Rattle.sweep_rules.proofs.OverLemmas.{completion-on}
-use Rattle.sweep_rules.proofs.ReadyLemmas.{start-ready, lawful-others, way_on-head}
 use Rattle.sweep_split.specs.Split.{early_label, late_label, IsSteady, IsNoSooner, MissesAll, HasLateCost}
 use Rattle.sweep_split.proofs.KeptLemmas.{kept_lines, line-uncut, over-kept, over-lost, starts_after, after-lawful, kept-parts, AreSoon, kept-after}
 
@@ -141,25 +140,3 @@ module _ (I : Instance) (cuts : List PlainCut) where
         is = part-completion label ends.lines ends.starts ends.is (λ s. not (late s)) (early_label label late) (early-once label ends.lines ends.starts ends.is late ready);
         below = omega (arith, high, ends.below, parts-flow label ends.lines ends.starts ends.is late ready steady sooner);
       }
-
-  -- a label whose minutes are raised to the first arrival of a ship that is wanted has all completions
-  pub raised-ends : (label : Label) (raised : ℕ → Way → ℕ) (goal : ℕ) → ((c : ℕ) → c < length I.chambers → (way : Way) → IsReadyFrom I cuts label.served c way (label.ready c way) (raised c way))
-      → EndsBelow I cuts goal label → EndsBelow I cuts goal (record label { ready = raised })
-  raised-ends label raised goal raises ends = record {
-    lines = ends.lines;
-    starts = ends.starts;
-    is = record {
-      uncut = ends.is.uncut;
-      lawful = λ c known. lawful-others I c (label.ready c) (raised c) (ends.lines c) (ends.starts c) (λ g rest t times line at first.
-          let own = way_on-head I c cuts label.served g rest (subst (IsWayOn I c cuts label.served) line (completion-on I cuts label ends.lines ends.starts ends.is c known)) in
-          start-ready I cuts label.served c (label.ready c g.way) (raised c g.way) t g (raises c known g.way).before own.0 own.1 first.later first.arrived) (ends.is.lawful c known);
-      once = ends.is.once;
-    };
-    below = ends.below;
-  }
-
-  -- A LATE LABEL WHOSE MINUTES ARE RAISED loses no completion.
-  pub late-raised : (late : ℕ → Bool) (ready raised : ℕ → Way → ℕ) (goal : ℕ)
-      → ((c : ℕ) → c < length I.chambers → (way : Way) → IsReadyFrom I cuts (λ s. not (late s)) c way (ready c way) (raised c way))
-      → EndsBelow I cuts goal (late_label late ready) → EndsBelow I cuts goal (late_label late raised)
-  late-raised late ready raised goal raises ends = raised-ends (late_label late ready) raised goal raises ends

@@ -24,7 +24,7 @@ use Rattle.sweep_rules.proofs.RowLock.{row}
 use Rattle.sweep_rules.proofs.Rows.{up, in_order}
 use Rattle.sweep_split.specs.Split.{early_label, late_label, other_way, IsSteady, IsNoSooner, MissesAll, IsLateLabel, HasLateCost}
 use Rattle.sweep_split.proofs.KeptLemmas.{starts_after, after-lawful}
-use Rattle.sweep_split.proofs.SplitLemmas.{split-ends, late-raised}
+use Rattle.sweep_split.proofs.SplitLemmas.{split-ends}
 
 -- the third ship is late
 abbrev late : ℕ → Bool
@@ -162,7 +162,7 @@ late-ends = record {
 late-not_more : HasLateCost row [] late opens 36 → ⊥
 late-not_more cost = cost.low late-ends
 
--- ---- minutes raised to the late ship's arrival lose no completion
+-- ---- minutes raised to the late ship's arrival
 abbrev arrival_of_late : ℕ → Way → ℕ
 arrival_of_late c way = 20
 
@@ -186,9 +186,6 @@ late-ready c known way = record {
     third (suc (suc zero)) known missing low = omega arith
     third (suc (suc (suc s))) known missing low = absurd (omega (arith, known))
 
-raised-ends : EndsBelow row [] 36 (late_label late arrival_of_late)
-raised-ends = late-raised row [] late opens arrival_of_late 36 late-ready late-ends
-
--- so a sweep of the late ship may begin there
+-- a sweep of the late ship may begin there
 begins-late : IsLateLabel row [] late opens (late_label late arrival_of_late)
 begins-late = record { served = λ s known. refl; ready = late-ready; flow = refl }

@@ -18,6 +18,6 @@
 //! for one way is ready for the other a lockage later.
 //!
 //! The laws stand in `proofs/`: the lines of some ships of a completion (`KeptLemmas`), labels split
-//! (`SplitLemmas`), what missing ships cost at their soonest (`SoonestLemmas`), a late cost where the sweep
-//! of the late ships treated all its labels (`LateLemmas`), and a worked split (`SplitRows`).
+//! (`SplitLemmas`), what missing ships cost at their soonest (`SoonestLemmas`), what a sweep of the late
+//! ships begins with and ends with (`LateLemmas`), and a worked split (`SplitRows`).
 #![tactic(auto)]
