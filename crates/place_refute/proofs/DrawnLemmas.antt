@@ -14,6 +14,7 @@ use Rattle.lock_rules.proofs.LineLemmas.{numbers_more}
 use Rattle.refute_rules.specs.declared.choices.Choice.{Choice}
 use Rattle.refute_rules.specs.declared.choices.Choice.TheVariants.{Lies, Before, Below, LiesAt}
 use Rattle.refute_rules.specs.Edges.{ship_edges, berth_edges, choice_edges}
+use Rattle.place_refute.specs.declared.edge_list.TheConstants.{EDGES}
 use Rattle.place_refute.specs.Drawn.{Drawn, IsDrawn, deck_edges}
 
 pub edges_more : (d : Deck) (es : List Edge) (n : ℕ) → es ≡ deck_edges d n → es ++ ship_edges d n ≡ deck_edges d (n + 1)
@@ -28,7 +29,7 @@ ships-length : (d : Deck) (low n : ℕ) → length (flat_map (ship_edges d) (num
 ships-length d low zero = refl
 ships-length d low (suc n) = omega (arith, ships-length d (suc low) n)
 
-pub edges_room : (d : Deck) (es : List Edge) (n : ℕ) → es ≡ deck_edges d n → n < MOST → length es ≤ 172
+pub edges_room : (d : Deck) (es : List Edge) (n : ℕ) → es ≡ deck_edges d n → n < MOST → length es + 4 ≤ EDGES
 edges_room d es n e less = omega (arith, ap length e, ships-length d 0 n)
 
 berth-few : (d : Deck) (i : ℕ) (rank : Rank) (moor : Moor) → length (berth_edges d i rank moor) ≤ 4
@@ -47,8 +48,8 @@ choices-few : (d : Deck) (cs : List Choice) → length (flat_map (choice_edges d
 choices-few d [] = omega arith
 choices-few d (c ∷ cs) = omega (arith, length-append (choice_edges d c) (flat_map (choice_edges d) cs), choice-few d c, choices-few d cs)
 
--- a case of fewer than 36 options of a deck of at most eight ships has room for the edges of one more
-pub drawn_room : (d : Deck) (case : Drawn) → IsDrawn d case → length d.ships ≤ MOST → length case.choices < DECISIONS → length case.edges ≤ 172
+-- a case of a deck that isn't whole has room for the edges of one more
+pub drawn_room : (d : Deck) (case : Drawn) → IsDrawn d case → length d.ships ≤ MOST → length case.choices < DECISIONS → length case.edges + 4 ≤ EDGES
 drawn_room d case is few less =
     omega (arith, ap length is.drawn, length-append (deck_edges d (length d.ships)) (flat_map (choice_edges d) case.choices), ships-length d 0 (length d.ships), choices-few d case.choices)
 

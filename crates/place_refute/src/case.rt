@@ -3,6 +3,7 @@ ghost use Rattle.std.specs.Prelude.{◌≡◌, ◌+◌, ◌<◌, ◌≤◌, [], 
 ghost use Rattle.refute_rules.specs.Edges.{choice_edges};
 ghost use Rattle.deck_cases.specs.Asked.{IsOfDeck};
 ghost use Rattle.place_refute.specs.Drawn.{deck_edges};
+ghost use Rattle.place_refute.specs.declared.edge_list.TheConstants.{EDGES};
 
 use crate::edge_list::CaseEdges;
 use arrayvec::ArrayVec;
@@ -74,7 +75,7 @@ impl Case {
     /// Takes an option.
     pub(crate) fn push(&mut self, deck: &Deck, choice: Choice)
         requires room { length self.old.choices < DECISIONS }
-        requires edges { length self.old.edges ≤ 172 }
+        requires edges { length self.old.edges + 4 ≤ EDGES }
         requires known { IsOfDeck deck.now choice }
         ensures { self.new ≡ record { choices = self.old.choices ++ choice ∷ []; edges = self.old.edges ++ choice_edges deck.now choice } }
     {

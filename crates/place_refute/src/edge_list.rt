@@ -4,12 +4,16 @@ ghost use Rattle.std.specs.Prelude.{◌≡◌, ◌≤◌, [], length, take};
 use arrayvec::ArrayVec;
 use deck_cases::EdgeList;
 use diff_rules::Edge;
+use lock_model::{DECISIONS, MOST};
 use std::marker::Model;
 
-/// Up to 176 edges: four for each of eight ships and of 36 options.
+/// The edges of a case, at most: four for each ship and for each option.
+pub(crate) const EDGES: usize = 4 * (MOST + DECISIONS);
+
+/// The edges of a case in order.
 #[derive(Drop)]
 pub(crate) struct CaseEdges {
-    items: ArrayVec<Edge, 176>,
+    items: ArrayVec<Edge, EDGES>,
 }
 
 impl Model for CaseEdges {
@@ -50,10 +54,11 @@ impl CaseEdges {
 impl EdgeList for CaseEdges {
     ghost use Rattle.std.specs.Prelude.{List};
     ghost use Rattle.diff_rules.specs.declared.edges.Edge.{Edge as Told};
+    ghost use Rattle.place_refute.specs.declared.edge_list.TheConstants.{EDGES};
 
     ghost edges = { λ (es : List Told). es };
 
-    ghost most = { 176 };
+    ghost most = { EDGES };
 
     fn push(&mut self, edge: Edge) {
         self.items.push(edge);
