@@ -4,7 +4,7 @@ use master_branch::Node;
 use mooring_rules::BrokenPlan;
 
 /// The reply to an event.
-#[derive(PartialEq, Eq, Drop)]
+#[derive(Drop)]
 pub enum Reply {
     /// The slot that was taken, and its node.
     Node(u32, Node),
@@ -29,7 +29,7 @@ pub enum Reply {
 }
 
 /// Why an event was refused.
-#[derive(PartialEq, Eq, Drop)]
+#[derive(Drop)]
 pub enum Refusal {
     /// The worker has released before.
     Ended(u8),

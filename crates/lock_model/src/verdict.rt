@@ -4,7 +4,7 @@ use crate::group::Ships;
 
 /// What a search has shown of its best plan: that it is cheapest, or why the search stopped.
 /// `low` is a cost that no legal plan goes below.
-#[derive(PartialEq, Eq, Drop)]
+#[derive(Drop)]
 pub enum Verdict {
     /// No legal plan costs less.
     Optimal,
