@@ -1,5 +1,8 @@
 -- What is shown of a slot changes, and nothing else of the slots; the entries of costs that were shown.
-use Rattle.std.proofs.Common.{◌≡◌, ℕ, zero, suc, ◌+◌, ◌<◌, List, [], ◌∷◌, ◌++◌, length, refl, sym, ap, ◌∙◌, subst, arith, Bool, false, cond, count_by, slice_index_or, slice_set, inl, inr, Some, None}
+use Rattle.std.proofs.Common.{◌≡◌, ℕ, zero, suc, ◌+◌, ◌<◌, List, [], ◌∷◌, ◌++◌, length, refl, sym, ap, ◌∙◌, subst, arith, Bool, false, cond, count_by, slice_index_or, slice_set, inl, inr, Some, None, Ok, Err, IfOk, IfErr}
+use Rattle.std.specs.Result.{IsErr}
+use Rattle.std.specs.declared.result.Result.{Result}
+use Rattle.std.proofs.lemmas.Bool.{false≢true}
 use Rattle.std.specs.declared.option.Option.{Option}
 use Rattle.std.proofs.lemmas.Bool.Decides.{eqb_tells}
 use Rattle.std.proofs.lemmas.List.{length-set, get_or-set_same, get_or-set_other}
@@ -23,6 +26,18 @@ use Rattle.book_core.specs.Tables.{state_in}
 use Rattle.book_core.proofs.HeldLemmas.{KeepsNodes}
 use Rattle.book_core.proofs.KeptLemmas.{length-slots}
 use Rattle.book_core.proofs.WaitingLemmas.{waiting-kept}
+
+-- ---- what is told with a refusal
+
+-- nothing is told of a value
+pub no_value : {T E : Type 0} (P : T → Type 0) (r : Result T E) → IsErr r → IfOk r P
+no_value P (Ok x) err = absurd (false≢true err)
+no_value P (Err e) err = tt
+
+-- what holds anyway
+pub if_refused : {T E : Type 0} {P : Type 0} (r : Result T E) → P → IfErr r (λ _. P)
+if_refused (Ok x) p = tt
+if_refused (Err e) p = p
 
 -- ---- the entries of costs that were shown
 

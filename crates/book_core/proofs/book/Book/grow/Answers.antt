@@ -10,7 +10,7 @@ use Rattle.book_core.specs.Keeps.{IsSound, AreTables}
 use Rattle.book_core.specs.Path.{IsPath}
 use Rattle.book_core.specs.Seen.{seen}
 use Rattle.book_core.specs.Stored.{slots_of}
-use Rattle.book_core.proofs.KeepingLemmas.{lows-kept}
+use Rattle.book_core.proofs.KeepingLemmas.{lows-kept, no_value, if_refused}
 use Rattle.book_core.proofs.BoundingLemmas.{bounding, tables-filled, hands-filled, bounds-here, hands-left}
 use Rattle.book_core.proofs.HeldLemmas.{ids-set}
 use Rattle.book_core.proofs.KeptLemmas.{length-slots}
@@ -45,6 +45,17 @@ invariant_of-self c =
       lows = old.lows;
       room = old.room;
     }
+
+pub returns-in_err-make_space-clause-some : goal.returns-in_err-make_space-clause-some
+returns-in_err-make_space-clause-some c = no_value _ c.from_residual.result c.from_residual.ensures.0
+
+pub returns-in_err-make_space-clause-count : goal.returns-in_err-make_space-clause-count
+returns-in_err-make_space-clause-count c = no_value _ c.from_residual.result c.from_residual.ensures.0
+
+pub returns-in_err-make_space-clause-none : goal.returns-in_err-make_space-clause-none
+returns-in_err-make_space-clause-none c =
+    let a = c.self.inside in
+    if_refused c.from_residual.result ((λ i. record (seen a) { slots = slots_of a.case.instance (c.make_space.ensures.slots i) }) ∙ c.self.view_is)
 
 pub overflow_cast-first : goal.overflow_cast-first
 overflow_cast-first c =
