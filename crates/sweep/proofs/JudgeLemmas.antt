@@ -1,5 +1,6 @@
 -- One chamber more, as a plan is judged.
-use Rattle.std.proofs.Common.{◌≡◌, ◌≢◌, ℕ, ◌+◌, ◌<◌, inl, inr, List, [], length, All, Vec, sym, ap, ◌∙◌, subst, arith, slice_index_or}
+use Rattle.std.proofs.Common.{◌≡◌, ◌≢◌, ℕ, zero, suc, ◌+◌, ◌<◌, ◌≤◌, inl, inr, List, [], ◌∷◌, length, All, Vec, Ok, Err, IfOk, refl, sym, ap, ◌∙◌, subst, arith, slice_index_or}
+use Rattle.std.specs.declared.result.Result.{Result}
 use Rattle.std.proofs.lemmas.Bool.Decides.{eqb_tells}
 use Rattle.std.proofs.lemmas.List.{get_or-map}
 use Rattle.lock_model.specs.declared.group.Group.{Group}
@@ -13,6 +14,28 @@ use Rattle.sweep.specs.declared.asked.SweepAsked.{SweepAsked}
 use Rattle.sweep.specs.Ends.{IsCase}
 use Rattle.sweep.specs.Judging.{lines_in, IsOwnGroup, AreUncutLines, IsUncutLine}
 use Rattle.sweep.proofs.BoundLemmas.{sum_more}
+
+-- the item at a place, whatever the default
+pub same-at : {X : Type 0} (xs : List X) (k : ℕ) (d e : X) → k < length xs → slice_index_or xs k d ≡ slice_index_or xs k e
+same-at [] k d e within = absurd (omega (arith, within))
+same-at (x ∷ xs) zero d e within = refl
+same-at (x ∷ xs) (suc k) d e within = same-at xs k d e (omega (arith, within))
+
+-- what holds of the first items of a list, and of one more
+module _ {X : Type 0} (P : X → Type 0) (xs : List X) (d : X) (n : ℕ) (each : (k : ℕ) → k < n → P (slice_index_or xs k d)) where
+  pub each_more : P (slice_index_or xs n d) → (k : ℕ) → k < n + 1 → P (slice_index_or xs k d)
+  each_more own k less = elim (eqb_tells k n) [
+    | inl y ↦ subst (λ k. P (slice_index_or xs k d)) (sym y.1) own
+    | inr m ↦ each k (omega (arith, less, m.1))
+  ]
+
+  pub each_all : length xs ≤ n → All P xs
+  each_all end = λ k e within. subst P (same-at xs k d e within) (each k (omega (arith, end, within)))
+
+-- what follows from what is told of a value
+pub value_more : {T E : Type 0} (P Q : T → Type 0) (r : Result T E) → ((x : T) → P x → Q x) → IfOk r P → IfOk r Q
+value_more P Q (Ok x) more p = more x p
+value_more P Q (Err e) more p = tt
 
 -- the line of a chamber is the one that is read
 pub line-read : {Z : Type 0} (lines : List (Vec Group Z)) (c : ℕ) (line : Vec Group Z) → c < length lines → line ≡ slice_index_or lines c line → lines_in lines c ≡ line.items
