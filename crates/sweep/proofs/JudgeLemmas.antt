@@ -1,6 +1,8 @@
 -- One chamber more, as a plan is judged.
 use Rattle.std.proofs.Common.{◌≡◌, ◌≢◌, ℕ, zero, suc, ◌+◌, ◌<◌, ◌≤◌, inl, inr, List, [], ◌∷◌, length, All, Vec, Ok, Err, IfOk, refl, sym, ap, ◌∙◌, subst, arith, slice_index_or}
+use Rattle.std.specs.Result.{IsErr}
 use Rattle.std.specs.declared.result.Result.{Result}
+use Rattle.std.proofs.lemmas.Bool.{false≢true}
 use Rattle.std.proofs.lemmas.Bool.Decides.{eqb_tells}
 use Rattle.std.proofs.lemmas.List.{get_or-map}
 use Rattle.lock_model.specs.declared.group.Group.{Group}
@@ -36,6 +38,11 @@ module _ {X : Type 0} (P : X → Type 0) (xs : List X) (d : X) (n : ℕ) (each :
 pub value_more : {T E : Type 0} (P Q : T → Type 0) (r : Result T E) → ((x : T) → P x → Q x) → IfOk r P → IfOk r Q
 value_more P Q (Ok x) more p = more x p
 value_more P Q (Err e) more p = tt
+
+-- nothing is told of a value where there is an error
+pub no_value : {T E : Type 0} (P : T → Type 0) (r : Result T E) → IsErr r → IfOk r P
+no_value P (Ok x) err = absurd (false≢true err)
+no_value P (Err e) err = tt
 
 -- the line of a chamber is the one that is read
 pub line-read : {Z : Type 0} (lines : List (Vec Group Z)) (c : ℕ) (line : Vec Group Z) → c < length lines → line ≡ slice_index_or lines c line → lines_in lines c ≡ line.items
