@@ -1,7 +1,10 @@
-use Rattle.std.proofs.Common.{◌<◌, length, sym, subst, arith}
+use Rattle.std.proofs.Common.{◌<◌, length, refl, sym, subst, arith}
+use Rattle.std.proofs.lemmas.Bool.{false≢true}
 use Rattle.sweep.specs.declared.late.LateShips.{LateShips}
 use Rattle.sweep.specs.Bounds.{cuts_of, AreLanesFrom}
 use Rattle.sweep.specs.Late.{IsGuided}
+use Rattle.sweep.proofs.GrownLemmas.{guided_on, further_same, further_more}
+use Rattle.sweep.proofs.JudgeLemmas.{no_value}
 use Rattle.sweep.proofs.sweeper.Sweeper.is_split_above.Goals as goal
 
 pub is_early_above-requires-clause-lanes : goal.is_early_above-requires-clause-lanes
@@ -15,3 +18,38 @@ is_early_above-requires-clause-lanes c =
     let within : n < length known.costs.items = omega (arith, c.loop-place-test.true, c.loop-place.auto.place-end, c.len-count.ensures) in
     subst (λ (l : LateShips). AreLanesFrom case.instance.now (cuts_of case) l.prices l.first (length case.instance.now.chambers) lanes) (sym c.index-late-place.is)
     (guided.lanes.rows n own (guided.costs.few n within))
+
+pub returns-in_err-is_early_above-clause-further : goal.returns-in_err-is_early_above-clause-further
+returns-in_err-is_early_above-clause-further c = no_value _ c.from_residual.result c.from_residual.ensures.0
+
+pub returns-in_err-is_early_above-clause-none : goal.returns-in_err-is_early_above-clause-none
+returns-in_err-is_early_above-clause-none c = no_value _ c.from_residual.result c.from_residual.ensures.0
+
+pub returns-then-count-eq0-clause-further : goal.returns-then-count-eq0-clause-further
+returns-then-count-eq0-clause-further c = further_same c.args.case.now c.args.self.now c.args.self.now c.requires c.requires.guided refl refl
+
+pub returns-then-count-eq0-clause-none : goal.returns-then-count-eq0-clause-none
+returns-then-count-eq0-clause-none c = λ no. absurd (false≢true no)
+
+pub loop-place-init : goal.loop-place-init
+loop-place-init c = record { further = further_same c.args.case.now c.args.self.now c.args.self.now c.requires c.requires.guided refl refl; made = refl }
+
+pub returns-then-branch-clause-further : goal.returns-then-branch-clause-further
+returns-then-branch-clause-further c =
+    let was = c.loop-place.invariant.further in
+    let now = c.loop-place.self in
+    let own = further_same c.args.case.now now _ was.sound (guided_on c.args.case.now now.lanes.now _ now.known was.sound.guided c.in_ok-is_early_above.ensures.same) refl refl in
+    further_more c.args.case.now c.args.self.now now _ was own
+
+pub loop-place-preserved : goal.loop-place-preserved
+loop-place-preserved c =
+    let was = c.loop-place.invariant.further in
+    let now = c.loop-place.self in
+    let own = further_same c.args.case.now now _ was.sound (guided_on c.args.case.now now.lanes.now _ now.known was.sound.guided c.in_ok-is_early_above.ensures.same) refl refl in
+    record { further = further_more c.args.case.now c.args.self.now now _ was own; made = c.loop-place.invariant.made }
+
+pub returns-clause-further : goal.returns-clause-further
+returns-clause-further c = c.loop-place.invariant.further
+
+pub returns-clause-none : goal.returns-clause-none
+returns-clause-none c = λ no. absurd (false≢true no)
