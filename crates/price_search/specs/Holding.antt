@@ -1,10 +1,6 @@
 -- What becomes of a slot that is held, as events change the hand of who holds it.
 use Rattle.std.specs.Prelude.{Bool, true, false, Ok, Err}
 use Rattle.std.specs.declared.result.Result.{Result}
-use Rattle.price_search.specs.declared.ending.AfterAscent.{AfterAscent}
-use Rattle.price_search.specs.declared.ending.AfterAscent.TheVariants as After
-use Rattle.price_search.specs.declared.sweeping.AfterSweep.{AfterSweep}
-use Rattle.price_search.specs.declared.sweeping.AfterSweep.TheVariants.{Closed, Again, Open}
 
 -- what is so of the hand as it began and as it was is so of it as it is
 abbrev pub Stays : {Hand : Type 0} (so : Hand → Hand → Type 0) (old new : Hand) → Type 0
@@ -19,17 +15,3 @@ Ends holds freed old new false = Stays holds old new
 abbrev pub was_closed : {Stop : Type 0} → Result Bool Stop → Bool
 was_closed (Ok closed) = closed
 was_closed (Err stop) = false
-
--- whether a sweep closed it
-abbrev pub was_ended : {Stop : Type 0} → Result AfterSweep Stop → Bool
-was_ended (Ok Closed) = true
-was_ended (Ok Again) = false
-was_ended (Ok Open) = false
-was_ended (Err stop) = false
-
--- whether it was closed by what comes after an ascent
-abbrev pub was_swept : {Stop : Type 0} → Result AfterAscent Stop → Bool
-was_swept (Ok After.Closed) = true
-was_swept (Ok After.Ascend) = false
-was_swept (Ok After.Split) = false
-was_swept (Err stop) = false

@@ -3,15 +3,14 @@ ghost use Rattle.master_branch.specs.Node.{IsNodeOf};
 ghost use Rattle.price_search.specs.Holding.{Stays, Ends, was_closed};
 
 use crate::desk::{Desk, InHand};
-use crate::ending::{AfterAscent, end_ascent};
 use crate::found::carry_out;
 use crate::pricing::{MOST_AT_A_NODE, Pricing};
 use crate::round::{Round, RoundEnd};
 use placed_groups::Memory;
 use price_terms::Prices;
 
-// Makes one round and carries out what it found; how it ended.
-fn make_round<D: Desk>(
+/// Makes one round at the held node and carries out what it found; how it ended.
+pub fn make_round<D: Desk>(
     desk: &D,
     hand: &mut D::Hand,
     memory: &mut Memory,
@@ -47,10 +46,10 @@ fn number_in_book<D: Desk>(
     }
 }
 
-// Closes the held slot by prices, where its node reaches the best cost by them and by the book's first
-// cuts; whether it was closed.
+/// Closes the held slot by prices, where its node reaches the best cost by them and by the book's first
+/// cuts; whether it was closed.
 #[inline(never)]
-fn close_by<D: Desk>(
+pub fn close_by<D: Desk>(
     desk: &D,
     hand: &mut D::Hand,
     pricing: &mut Pricing,
@@ -77,7 +76,8 @@ fn close_by<D: Desk>(
     Ok(closed)
 }
 
-// Makes rounds, ascent by ascent, until the slot is closed or prices show no more; whether it was closed.
+// Makes rounds until the slot is closed or prices show no more; whether it was closed. A node that is split leaves
+// its prices to the nodes below it.
 fn make_rounds<D: Desk>(
     desk: &D,
     hand: &mut D::Hand,
@@ -94,18 +94,17 @@ fn make_rounds<D: Desk>(
         match make_round(desk, hand, memory, pricing, held)? {
             RoundEnd::Again => {}
             RoundEnd::Reached(prices) => return close_by(desk, hand, pricing, held, &prices),
-            RoundEnd::Open => match end_ascent(desk, hand, memory, pricing, held)? {
-                AfterAscent::Closed => return Ok(true),
-                AfterAscent::Ascend => {}
-                AfterAscent::Split => return Ok(false),
-            },
+            RoundEnd::Open => {
+                desk.leave(pricing, held)?;
+                return Ok(false);
+            }
         }
     }
     Ok(false)
 }
 
-// Closes the held slot by the prices of the node above it, which close most nodes; whether they do.
-fn close_as_inherited<D: Desk>(
+/// Begins the held node with the prices of the node above it, which close most nodes; whether they do.
+pub fn close_as_inherited<D: Desk>(
     desk: &D,
     hand: &mut D::Hand,
     pricing: &mut Pricing,
@@ -116,6 +115,7 @@ fn close_as_inherited<D: Desk>(
     ensures serves { D.serves desk.now hand.new }
     ensures ends { Ends (D.holds desk.now held.now) (D.freed desk.now) hand.old hand.new (was_closed result) }
 {
+    desk.inherit(pricing, held);
     match pricing.inherited() {
         Some(prices) => close_by(desk, hand, pricing, held, &prices),
         None => Ok(false),
@@ -123,8 +123,8 @@ fn close_as_inherited<D: Desk>(
 }
 
 /// Asks prices about the held node, and carries out what they find: new cuts are posted, a plan is given
-/// to the book, and the slot is closed where its node reaches the best cost by prices, or is the root and
-/// the best cost is swept. Whether it was closed; else it is held still, also where the desk stopped.
+/// to the book, and the slot is closed where its node reaches the best cost by prices. Whether it was closed;
+/// else it is held still, also where the desk stopped.
 pub fn price<D: Desk>(
     desk: &D,
     hand: &mut D::Hand,
@@ -137,7 +137,6 @@ pub fn price<D: Desk>(
     ensures serves { D.serves desk.now hand.new }
     ensures ends { Ends (D.holds desk.now held.now) (D.freed desk.now) hand.old hand.new (was_closed result) }
 {
-    desk.inherit(pricing, held);
     if close_as_inherited(desk, hand, pricing, held)? {
         return Ok(true);
     }

@@ -1,14 +1,12 @@
 //! Where a search carries out what prices find.
 
-use crate::found::Found;
-use crate::placing::UncutGroups;
 use crate::pricing::Pricing;
 use crate::round::Round;
 use deck_cuts::Cut;
 use lock_model::{Instance, Plan};
 use master_branch::Node;
 use placed_groups::Memory;
-use price_terms::{Prices, Shown, Swept};
+use price_terms::{Prices, Shown};
 use std::alloc::Global;
 
 /// A slot that is held, and its node.
@@ -81,19 +79,6 @@ pub trait Desk {
         ensures serves { serves self.now hand.new }
         ensures holds { Stays (holds self.now held.now) hand.old hand.new };
 
-    /// Places uncut groups, with the cuts that are known here.
-    fn place(
-        &self,
-        hand: &mut Self::Hand,
-        memory: &mut Memory,
-        held: &InHand<'_>,
-        groups: UncutGroups<'_>,
-    ) -> Result<Found, Self::Stop>
-        requires serves { serves self.now hand.old }
-        requires node { IsNodeOf (instance self.now) held.now.node.now }
-        ensures serves { serves self.now hand.new }
-        ensures holds { Stays (holds self.now held.now) hand.old hand.new };
-
     /// Posts a cut that was found.
     fn post(&self, hand: &mut Self::Hand, held: &InHand<'_>, cut: Cut) -> Result<(), Self::Stop>
         requires serves { serves self.now hand.old }
@@ -125,19 +110,6 @@ pub trait Desk {
         held: &InHand<'_>,
         number: u64,
         shown: &Shown<'_>,
-    ) -> bool
-        requires serves { serves self.now hand.old }
-        ensures serves { serves self.now hand.new }
-        ensures ends { Ends (holds self.now held.now) (freed self.now) hand.old hand.new result };
-
-    /// Closes the held slot, which is the root's, by the cost that was swept, with the prices of this number
-    /// to help whoever sweeps again; whether the book took that.
-    fn close_swept(
-        &self,
-        hand: &mut Self::Hand,
-        held: &InHand<'_>,
-        number: u64,
-        swept: &Swept<'_>,
     ) -> bool
         requires serves { serves self.now hand.old }
         ensures serves { serves self.now hand.new }

@@ -14,7 +14,7 @@ pub struct Found {
 
 impl Found {
     /// Whether there is neither a cut nor a plan.
-    pub(crate) fn is_empty(&self) -> bool {
+    pub fn is_empty(&self) -> bool {
         self.cuts.len() == 0 && self.plan.is_none()
     }
 }
@@ -54,7 +54,7 @@ fn give_some<D: Desk>(
 }
 
 /// Posts the cuts that were found, and gives the plan to the book.
-pub(crate) fn carry_out<D: Desk>(
+pub fn carry_out<D: Desk>(
     desk: &D,
     hand: &mut D::Hand,
     held: &InHand<'_>,

@@ -2,28 +2,24 @@
 ghost use Rattle.std.specs.Prelude.{◌≡◌, ◌<◌, length, All};
 
 use crate::appending::append;
-use crate::found::Found;
 use crate::round::Asked;
 use deck_cuts::{Cut, cut_hits};
 use lock_model::{Instance, Ships, Spots};
-use near_plan::{Fitting, Moves, fits, near_plan};
+use near_plan::Fitting;
 use no_memory::NoMemory;
 use node_work::{FirstPlacer, KnownCuts, Search, Settled, settle_known};
 use placed_groups::Memory;
-use price_terms::{LooseLine, LooseLines};
 use std::alloc::Global;
-use sweep::{UncutPlan, group_of};
-use sweep_labels::KeptLabel;
 
 /// The placers, as prices ask them. What was found before is remembered, and cuts are looked at first;
 /// new cuts are kept.
 #[derive(Drop)]
-pub(crate) struct Placer<'p, 'm, K: KnownCuts> {
+pub struct Placer<'p, 'm, K: KnownCuts> {
     pub(crate) alloc: Global,
-    pub(crate) search: &'p Search<'p>,
+    pub search: &'p Search<'p>,
     pub(crate) known: &'p K,
     pub(crate) memory: &'m mut Memory,
-    pub(crate) found: Vec<Cut>,
+    pub found: Vec<Cut>,
 }
 
 // Whether one of these cuts hits the ships in this chamber.
@@ -41,11 +37,7 @@ fn is_hit(cuts: &[Cut], instance: &Instance, chamber: u8, ships: &Ships) -> bool
 
 impl<'p, 'm, K: KnownCuts> Placer<'p, 'm, K> {
     /// A placer that has found no cut yet.
-    pub(crate) fn new(
-        alloc: Global,
-        asked: &Asked<'p, K>,
-        memory: &'m mut Memory,
-    ) -> Placer<'p, 'm, K>
+    pub fn new(alloc: Global, asked: &Asked<'p, K>, memory: &'m mut Memory) -> Placer<'p, 'm, K>
         ensures { result.search.now ≡ asked.now.search.now }
     {
         Placer {
@@ -87,91 +79,4 @@ impl<K: KnownCuts> Fitting for Placer<'_, '_, K> {
             }
         }
     }
-}
-
-/// Groups that a sweep found, of which no cut is known.
-#[derive(Drop)]
-pub enum UncutGroups<'l> {
-    /// Those of a plan.
-    Plan(UncutPlan),
-    /// Those by which labels went on: all of nearly cheapest plans are among them.
-    Steps(&'l [KeptLabel]),
-}
-
-// The lines of an uncut plan as loose ones.
-fn loose_lines(alloc: Global, plan: UncutPlan) -> Result<LooseLines, NoMemory> {
-    let mut lines = Vec::new(alloc);
-    for groups in plan.lines {
-        append(&mut lines, LooseLine { groups, worth: 0 })?;
-    }
-    Ok(LooseLines { lines, sum: 0 })
-}
-
-// Places the group by which a label went on.
-fn place_step<K: KnownCuts>(
-    instance: &Instance,
-    labels: &[KeptLabel],
-    kept: &KeptLabel,
-    placer: &mut Placer<'_, '_, K>,
-) -> Result<(), NoMemory>
-    requires { placer.old.search.now.instance.now ≡ instance.now }
-    ensures { placer.new.search.now.instance.now ≡ instance.now }
-{
-    let Some(parent) = kept.parent else {
-        return Ok(());
-    };
-    let Some(before) = labels.get(parent as usize) else {
-        return Ok(());
-    };
-    let group = group_of(instance, kept, before);
-    fits(instance, kept.chamber, &group.ships, placer)?;
-    Ok(())
-}
-
-// Places the groups by which labels went on.
-fn place_steps<K: KnownCuts>(
-    instance: &Instance,
-    labels: &[KeptLabel],
-    placer: &mut Placer<'_, '_, K>,
-) -> Result<(), NoMemory>
-    requires { placer.old.search.now.instance.now ≡ instance.now }
-    ensures { placer.new.search.now.instance.now ≡ instance.now }
-{
-    for kept in labels {
-        place_step(instance, labels, kept, placer)?;
-    }
-    Ok(())
-}
-
-/// Places uncut groups: each that doesn't fit gives a cut. Those of a plan are a plan then, which is found
-/// where it is cheaper than the best one. Its only refusal is want of memory.
-pub fn place_uncut<K: KnownCuts>(
-    alloc: Global,
-    asked: &Asked<'_, K>,
-    memory: &mut Memory,
-    groups: UncutGroups<'_>,
-) -> Result<Found, NoMemory> {
-    let instance = asked.search.instance;
-    let mut placer = Placer::new(alloc, asked, memory);
-    let plan = match groups {
-        UncutGroups::Plan(plan) => {
-            let lines = loose_lines(alloc, plan)?;
-            near_plan(
-                alloc,
-                instance,
-                &lines,
-                asked.best,
-                Moves::Ships,
-                &mut placer,
-            )?
-        }
-        UncutGroups::Steps(labels) => {
-            place_steps(instance, labels, &mut placer)?;
-            None
-        }
-    };
-    Ok(Found {
-        cuts: placer.found,
-        plan,
-    })
 }

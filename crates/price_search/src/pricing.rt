@@ -7,7 +7,6 @@ ghost use Rattle.price_search.specs.Showing.{IsShownOf};
 use crate::appending::append;
 use crate::offers::Offer;
 use crate::round::LIMITS;
-use crate::sweeping::Goals;
 use lock_model::Instance;
 use master_branch::Node;
 use near_plan::Moves;
@@ -16,24 +15,11 @@ use price_bound::{KeptLines, PricedNode, show};
 use price_raise::{Ascent, Pace};
 use price_terms::{ChamberCut, Prices, Shown};
 use std::alloc::Global;
-use sweep::{SweepAsked, SweepLimits, SweepOutcome, sweep};
 
 // The most rounds in a search.
 const MOST_ROUNDS: u32 = 10_000;
-// The most rounds that are tried at a node; the pricing ends them before.
-pub(crate) const MOST_AT_A_NODE: u32 = 4_000;
-/// The most labels for one cost of a sweep, which take some 260 bytes each while it lasts.
-pub(crate) const MOST_LABELS_AT_ONCE: u64 = 650_000;
-/// The most labels for one cost while a further ascent may still bring the goal nearer.
-pub(crate) const FEW_LABELS_AT_ONCE: u64 = 30_000;
-// So many times the most labels for one cost all costs of a sweep may take: each takes some times as many as the
-// one before.
-const COSTS_OF_A_SWEEP: u64 = 4;
-// The most groups of a chamber and way that a sweep of many ships grows at once: where chambers take six ships at
-// a time, costs far above what prices reach ask for so many.
-const MOST_SWEPT_GROUPS: usize = 600_000;
-// The most ascents at the root after its first one, each with more triples.
-const MORE_ASCENTS: u32 = 3;
+/// The most rounds that are tried at a node; the pricing ends them before.
+pub const MOST_AT_A_NODE: u32 = 4_000;
 // A gap that is a greater part of the best cost is wide. It is told after so many rounds.
 const WIDE_PART: u64 = 50;
 
@@ -76,27 +62,6 @@ const LASTING_PACE: Pace = Pace {
     from_best: 720,
 };
 
-// A further ascent begins near the best prices, and triples turn slowly.
-const MORE_PACE: Pace = Pace {
-    steps: 400,
-    kept: 9,
-    patience: 15,
-    span: 80,
-    spans: 40,
-    from_best: 0,
-};
-
-// Where few labels don't close the root and no triples are found, the first ascent mostly ended too soon: steps
-// that turn slowly come near the best prices.
-const SLOW_PACE: Pace = Pace {
-    steps: 800,
-    kept: 9,
-    patience: 30,
-    span: 80,
-    spans: 40,
-    from_best: 0,
-};
-
 const PACE: Pace = Pace {
     steps: 40,
     kept: 3,
@@ -135,32 +100,6 @@ impl FirstNode {
             FirstNode::Long | FirstNode::Steady => false,
         }
     }
-
-    // How many groups of a chamber and way a sweep may grow at once.
-    fn swept_groups(self) -> usize {
-        match self {
-            FirstNode::Long | FirstNode::Steady => LIMITS.groups,
-            FirstNode::Lasting => MOST_SWEPT_GROUPS,
-        }
-    }
-
-    // How many ascents with triples may follow the first one at the root. Where chambers take two ships at a
-    // time, a third one gains little; a table of many ships takes too long.
-    fn more_ascents(self) -> u32 {
-        match self {
-            FirstNode::Long => MORE_ASCENTS,
-            FirstNode::Steady => MORE_ASCENTS - 1,
-            FirstNode::Lasting => 0,
-        }
-    }
-
-    // Whether the best cost may be swept without lower ones before it.
-    fn may_jump(self) -> bool {
-        match self {
-            FirstNode::Long | FirstNode::Steady => true,
-            FirstNode::Lasting => false,
-        }
-    }
 }
 
 /// The greatest cost, in minutes, that a sum of least lines and prices, in hundredths, reaches.
@@ -184,19 +123,16 @@ fn ascent_of(alloc: Global, prices: &Prices, pace: Pace) -> Result<Box<Ascent>, 
 }
 
 /// The prices of the nodes on the way from the root to the one in hand, those that are raised at the
-/// node in hand, how soon the first node is left, the first cuts of the book, how many further ascents at
-/// the root, rounds and labels of sweeps may be made still, whether cuts may be looked for before there are
-/// lines, and least lines that are kept from call to call.
+/// node in hand, how soon the first node is left, the first cuts of the book, how many rounds may be made
+/// still, whether cuts may be looked for before there are lines, and least lines that are kept from call to
+/// call.
 #[derive(Drop)]
 pub struct Pricing {
     pub(crate) path: Vec<Offer>,
     pub(crate) ascent: Box<Ascent>,
     pub(crate) first: FirstNode,
-    pub(crate) ascents: u32,
     pub(crate) left: u32,
     pub(crate) may_seed: bool,
-    pub(crate) may_slow: bool,
-    pub(crate) labels: u64,
     pub(crate) is_first: bool,
     pub(crate) from: u8,
     pub(crate) cuts: Vec<ChamberCut>,
@@ -204,14 +140,8 @@ pub struct Pricing {
 }
 
 impl Pricing {
-    /// Begins with these prices, one for each ship, at the first node. All sweeps together may make so many
-    /// labels.
-    pub fn new(
-        alloc: Global,
-        prices: Prices,
-        first: FirstNode,
-        labels: u64,
-    ) -> Result<Pricing, NoMemory> {
+    /// Begins with these prices, one for each ship, at the first node.
+    pub fn new(alloc: Global, prices: Prices, first: FirstNode) -> Result<Pricing, NoMemory> {
         let mut path = Vec::new(alloc);
         let ascent = ascent_of(alloc, &prices, first.pace())?;
         append(&mut path, Offer::new(prices))?;
@@ -219,11 +149,8 @@ impl Pricing {
             path,
             ascent,
             first,
-            ascents: first.more_ascents(),
             left: MOST_ROUNDS,
             may_seed: true,
-            may_slow: true,
-            labels,
             is_first: true,
             from: 0,
             cuts: Vec::new(alloc),
@@ -287,6 +214,16 @@ impl Pricing {
         reached_by(self.ascent.best_sum())
     }
 
+    /// The best prices of the node in hand.
+    pub fn best(&self) -> &Prices {
+        self.ascent.best()
+    }
+
+    /// Whether the sets of ships were too many at a node as deep as this.
+    pub fn has_too_many(&self, depth: u8) -> bool {
+        depth < self.from
+    }
+
     /// The best prices of the node in hand, as they are offered to the nodes below it.
     pub fn offer(&self) -> Offer {
         let best = self.ascent.best();
@@ -329,27 +266,16 @@ impl Pricing {
         }
     }
 
-    /// Whether further ascents may be made at the root.
-    pub(crate) fn may_ascend(&self) -> bool {
-        self.ascents > 0
+    /// Begins a further ascent at the node in hand from its best prices, at this pace: with more triples;
+    /// whether there are any.
+    pub fn widen(&mut self, pace: Pace) -> bool {
+        self.ascent.widen(pace)
     }
 
-    // Begins an ascent by slow steps from the best prices, once.
-    fn ascend_slowly(&mut self) -> bool {
-        let may = self.may_slow;
-        self.may_slow = false;
-        if may {
-            let best = self.ascent.best().copy();
-            self.ascent.restart(&best, SLOW_PACE);
-        }
-        may
-    }
-
-    /// Begins a further ascent at the root, from its best prices: with more triples, or by slow steps once where
-    /// there are none; whether there is one. A plan is made in each of its rounds.
-    pub(crate) fn ascend_again(&mut self) -> bool {
-        self.ascents = self.ascents.saturating_sub(1);
-        self.ascent.widen(MORE_PACE) || self.ascend_slowly()
+    /// Begins the node in hand anew from its best prices, at this pace.
+    pub fn ascend_from_best(&mut self, pace: Pace) {
+        let best = self.ascent.best().copy();
+        self.ascent.restart(&best, pace);
     }
 
     /// The same, as it is to go on below the node in hand, with all rounds to be made still.
@@ -360,11 +286,8 @@ impl Pricing {
             path,
             ascent: ascent_of(alloc, self.ascent.best(), PACE)?,
             first: self.first,
-            ascents: 0,
             left: MOST_ROUNDS,
             may_seed: false,
-            may_slow: false,
-            labels: self.labels,
             is_first: self.is_first,
             from: self.from,
             cuts: copy_cuts(alloc, &self.cuts)?,
@@ -411,57 +334,6 @@ impl Pricing {
         match show(&mut self.kept, &asked, cost, LIMITS) {
             Ok(shown) => shown,
             Err(_) => None,
-        }
-    }
-
-    // How many labels all costs of a sweep may take: some times as many as one of them. Where the best cost may
-    // be swept at once in the end, as many as that takes are left.
-    fn labels_for(&self, goals: &Goals) -> u64 {
-        self.labels
-            .saturating_sub(goals.spared())
-            .min(goals.labels.saturating_mul(COSTS_OF_A_SWEEP))
-    }
-
-    /// Whether the best cost may be swept at once where labels run out on the way to it: of many ships that takes
-    /// too long.
-    pub(crate) fn may_jump(&self) -> bool {
-        self.first.may_jump()
-    }
-
-    /// Sweeps the best cost by these prices and the book's first cuts, with no more labels for a cost than so many,
-    /// and for all costs than some times that and those that are left. None where that takes more than
-    /// limits, or for want of memory; then the labels that it might have made are spent.
-    pub(crate) fn sweep<'a>(
-        &'a mut self,
-        alloc: Global,
-        instance: &'a Instance,
-        prices: &'a Prices,
-        goals: &Goals,
-    ) -> Option<SweepOutcome<'a>> {
-        let all = self.labels_for(goals);
-        let asked = SweepAsked {
-            instance,
-            cuts: self.cuts.as_slice(),
-            prices,
-            low: goals.lowest(),
-            first: goals.first(),
-            goal: goals.best,
-        };
-        let limits = SweepLimits {
-            labels: goals.labels as usize,
-            all,
-            groups: self.first.swept_groups(),
-            turns: LIMITS.turns,
-        };
-        match sweep(alloc, &asked, limits) {
-            Ok(outcome) => {
-                self.labels = self.labels.saturating_sub(outcome.labels);
-                Some(outcome)
-            }
-            Err(_) => {
-                self.labels = self.labels.saturating_sub(all);
-                None
-            }
         }
     }
 

@@ -215,7 +215,6 @@ impl Pricing {
     ) -> Result<Round, NoMemory> {
         let found = self.seeded(alloc, asked, memory)?;
         if found.is_empty() {
-            self.may_slow = false;
             self.from = asked.node.depth().saturating_add(1);
             return Ok(round_of(alloc, RoundEnd::Open));
         }

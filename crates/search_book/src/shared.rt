@@ -129,7 +129,7 @@ impl<L: Ledger> SharedBook<L> {
         next
     }
 
-    /// Waits for the lock, and closes a slot by what was found and, where that is accepted, takes one for
+    /// Waits for the lock, and closes a slot by prices and, where that is accepted, takes one for
     /// this worker, as `close_and_take` does in one holding of the lock. The share grows by one for
     /// each of the two that is accepted, and then all who wait are told. The share needs a part, and
     /// keeps its parts.

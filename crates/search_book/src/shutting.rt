@@ -1,4 +1,4 @@
-//! A slot that is closed by what was found beside the book, and a taking after it.
+//! A slot that is closed by what was shown beside the book, and a taking after it.
 ghost use Rattle.std.specs.Prelude.{◌≡◌, ◌+◌, ◌<◌, ◌≤◌, length};
 ghost use Rattle.std.specs.Bool.{OnFalse};
 ghost use Rattle.book_core.specs.Replies.{Answers};
@@ -13,46 +13,28 @@ use crate::next::Next;
 use crate::replies::is_accepting;
 use book_core::{Book, Reply};
 use lock_model::WORKERS;
-use price_terms::{Shown, Swept};
+use price_terms::Shown;
 use std::sync::ledger::{Ledger, Share};
 
-/// What was worked out beside a book and closes a slot of it.
-#[derive(Drop)]
-pub enum Finding<'a> {
-    /// What the slot's node reaches by prices.
-    Shown(&'a Shown<'a>),
-    /// What is swept, which closes the root.
-    Swept(&'a Swept<'a>),
-}
-
-/// How a slot is closed by what was found: its number, that of the prices, and the finding.
+/// How a slot is closed by prices: its number, that of the prices, and what its node was shown to reach
+/// by them.
 #[derive(Drop)]
 pub struct Closing<'a> {
     pub id: u32,
     pub number: u64,
-    pub by: Finding<'a>,
+    pub shown: &'a Shown<'a>,
 }
 
-// Closes a slot by what was found.
-fn close_found(book: &mut Book, closing: &Closing<'_>) -> Reply
-    ensures { Answers book.old (closing_event closing.now) result book.new }
-{
-    match &closing.by {
-        Finding::Shown(shown) => book.close_price(closing.id, closing.number, shown),
-        Finding::Swept(swept) => book.close_swept(closing.id, closing.number, swept),
-    }
-}
-
-// Closes a slot by what was found, and says how that changes the history.
+// Closes a slot by prices, and says how that changes the history.
 fn close_counted(book: &mut Book, closing: &Closing<'_>) -> Reply
     ensures step { Answers book.old (closing_event closing.now) result book.new }
     ensures count { length book.new.history ≡ length book.old.history + accepted result }
     ensures refused { OnFalse (is_accepting result) (book.new ≡ book.old) }
 {
-    close_found(book, closing)
+    book.close_price(closing.id, closing.number, closing.shown)
 }
 
-// Closes a slot of the book that is kept by what was found, and counts that where it is accepted.
+// Closes a slot of the book that is kept by prices, and counts that where it is accepted.
 fn shut<L: Ledger>(kept: &mut Kept<L>, share: &mut Share<L>, closing: &Closing<'_>) -> Reply
     requires part { 0 < share.old.parts }
     ensures step { Answers kept.old.book.value (closing_event closing.now) result kept.new.book.value }
@@ -68,7 +50,7 @@ fn shut<L: Ledger>(kept: &mut Kept<L>, share: &mut Share<L>, closing: &Closing<'
     reply
 }
 
-/// Closes a slot as `Book::close_price` or `Book::close_swept` does and, where that is accepted, makes
+/// Closes a slot as `Book::close_price` does and, where that is accepted, makes
 /// `Take` of this worker as `apply` does. The total and the amount of the share grow by one for each of
 /// the two that is accepted.
 pub fn close_and_take<L: Ledger>(

@@ -16,11 +16,9 @@ use lock_model::{Instance, Plan};
 use master_branch::Node;
 use node_work::Fate;
 use placed_groups::Memory;
-use price_search::{
-    Asked, Desk, Found, InHand, Offer, Pricing, Round, UncutGroups, place_uncut, price,
-};
-use price_terms::{Prices, Shown, Swept};
-use search_book::{Closing, Event, Finding};
+use price_search::{Asked, Desk, InHand, Offer, Pricing, Round, price};
+use price_terms::{Prices, Shown};
+use search_book::{Closing, Event};
 use std::alloc::Global;
 use std::mem;
 use std::sync::Wait;
@@ -103,24 +101,6 @@ impl<L: Ledger, W: Wait, G: Gate> Desk for Post<'_, L, W, G> {
         Ok(pricing.round(self.alloc, &asked, memory)?)
     }
 
-    fn place(
-        &self,
-        worker: &mut Worker<L>,
-        memory: &mut Memory,
-        held: &InHand<'_>,
-        groups: UncutGroups<'_>,
-    ) -> Result<Found, Stop> {
-        let best = best_cost(self, worker);
-        let known = posted_cuts(self.pool, &worker.tokens);
-        let asked = Asked {
-            search: &self.search,
-            node: held.node,
-            best,
-            known: &known,
-        };
-        Ok(place_uncut(self.alloc, &asked, memory, groups)?)
-    }
-
     fn post(&self, worker: &mut Worker<L>, _held: &InHand<'_>, cut: Cut) -> Result<(), Stop> {
         post_cut(self, worker, Box::new(self.alloc, cut)?)?;
         Ok(())
@@ -154,23 +134,7 @@ impl<L: Ledger, W: Wait, G: Gate> Desk for Post<'_, L, W, G> {
         let closing = Closing {
             id: held.id,
             number,
-            by: Finding::Shown(shown),
-        };
-        finish_by(self, worker, &closing)
-    }
-
-    // The same.
-    fn close_swept(
-        &self,
-        worker: &mut Worker<L>,
-        held: &InHand<'_>,
-        number: u64,
-        swept: &Swept<'_>,
-    ) -> bool {
-        let closing = Closing {
-            id: held.id,
-            number,
-            by: Finding::Swept(swept),
+            shown,
         };
         finish_by(self, worker, &closing)
     }

@@ -6,8 +6,8 @@ use book_core::Book;
 use gates::{Gate, Point};
 use node_work::Search;
 use placed_groups::Memory;
-use price_search::Pricing;
 use price_terms::Prices;
+use root_pricing::RootPricing;
 use std::alloc::Global;
 
 /// What the driver has beside the book: the gate that it calls, the search, what the placers told it, and
@@ -18,7 +18,7 @@ pub(crate) struct Driver<'s, G: Gate> {
     pub(crate) gate: &'s G,
     pub(crate) search: Search<'s>,
     pub(crate) memory: Memory,
-    pub(crate) pricing: Option<Pricing>,
+    pub(crate) pricing: Option<RootPricing>,
     pub(crate) root: Option<Prices>,
 }
 
@@ -41,8 +41,8 @@ impl<'s, G: Gate> Driver<'s, G> {
     pub(crate) fn keep_root(&mut self)
         ensures { self.new.search ≡ self.old.search }
     {
-        if let Some(pricing) = &self.pricing {
-            self.root = Some(pricing.offer().prices);
+        if let Some(RootPricing { pricing, .. }) = &self.pricing {
+            self.root = Some(pricing.best().copy());
         }
     }
 

@@ -23,7 +23,8 @@ use lock_model::Instance;
 use no_memory::NoMemory;
 use node_work::Search;
 use price_raise::first_prices;
-use price_search::{FirstNode, Pricing};
+use price_search::FirstNode;
+use root_pricing::RootPricing;
 use search_worker::Board;
 use std::alloc::Global;
 use std::mem;
@@ -143,12 +144,12 @@ fn begin_pricing<G: Gate>(driver: &mut Driver<'_, G>, book: &Book, first: FirstN
 {
     let case = book.case();
     let prices = first_prices(&case.instance, book.best());
-    driver.pricing = Pricing::new(driver.alloc, prices, first, most_labels(case)).ok();
+    driver.pricing = RootPricing::new(driver.alloc, prices, first, most_labels(case)).ok();
 }
 
 // The board of what was found at the root, if anything was and there is memory for it.
-fn board_of(alloc: Global, pricing: Option<Pricing>) -> Option<Board> {
-    Board::new(alloc, pricing?).ok()
+fn board_of(alloc: Global, root: Option<RootPricing>) -> Option<Board> {
+    Board::new(alloc, root?.pricing).ok()
 }
 
 // Lets the workers search a book with prices, and settles it: the book that they leave, or a fresh one
@@ -158,7 +159,7 @@ fn board_of(alloc: Global, pricing: Option<Pricing>) -> Option<Board> {
 fn priced_by_all<R: Threads + Wait + Sync, G: Gate + Sync>(
     lent: &Lent<'_, R, G>,
     book: Box<Book>,
-    pricing: Option<Pricing>,
+    root: Option<RootPricing>,
     cost: u64,
 ) -> Result<Box<Book>, NoMemory>
     requires ready { IsReady lent.now.case.now cost book.value }
@@ -167,7 +168,7 @@ fn priced_by_all<R: Threads + Wait + Sync, G: Gate + Sync>(
     book.keeps();
     let opening = book.opening_cost();
     let best = book.best().copy();
-    let board = board_of(lent.alloc, pricing);
+    let board = board_of(lent.alloc, root);
     let left = worked(lent, book, board.as_ref())?;
     let none = CutList::new(lent.alloc);
     settled(lent.alloc, left, lent.case, opening, &best, &none)
@@ -195,8 +196,8 @@ fn priced<R: Threads + Wait + Sync, G: Gate + Sync>(
     if is_done || lent.workers == 1 {
         return Ok(book);
     }
-    let pricing = mem::replace(&mut driver.pricing, None);
-    let book = priced_by_all(lent, book, pricing, cost)?;
+    let root = mem::replace(&mut driver.pricing, None);
+    let book = priced_by_all(lent, book, root, cost)?;
     begin_pricing(driver, &*book, first);
     Ok(book)
 }

@@ -18,7 +18,7 @@
 //!   best cost: the book ends well. All that it does to the book is a list of events of the driver, also
 //!   where memory runs out. For each node `held` takes it, `working` asks `node_work` what becomes of
 //!   it, and `ending` makes it so. One that would be split is priced first, once there are prices
-//!   (`pricing`): that is `price` of `price_search`, at the desk that the book in the driver's hand is
+//!   (`pricing`): that is `price_or_sweep` of `root_pricing`, at the desk that the book in the driver's hand is
 //!   (`offering`).
 //! - At the end the caller shows of the slots that are left what the root reaches by its prices (`lows`).
 //!

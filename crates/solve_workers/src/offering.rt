@@ -15,8 +15,9 @@ use lock_model::{Instance, Plan};
 use no_memory::NoMemory;
 use node_work::Search;
 use placed_groups::Memory;
-use price_search::{Asked, Desk, Found, InHand, Pricing, Round, UncutGroups, place_uncut};
+use price_search::{Asked, Desk, Found, InHand, Pricing, Round};
 use price_terms::{Prices, Shown, Swept};
+use root_pricing::{RootDesk, UncutGroups, place_uncut};
 use search_book::learn_cuts;
 use std::alloc::Global;
 
@@ -127,22 +128,6 @@ impl<G: Gate> Desk for DriversDesk<'_, G> {
         pricing.round(self.alloc, &asked, memory)
     }
 
-    fn place(
-        &self,
-        book: &mut Book,
-        memory: &mut Memory,
-        held: &InHand<'_>,
-        groups: UncutGroups<'_>,
-    ) -> Result<Found, NoMemory> {
-        let asked = Asked {
-            search: self.search,
-            node: held.node,
-            best: book.best_cost(),
-            known: &*book,
-        };
-        place_uncut(self.alloc, &asked, memory, groups)
-    }
-
     fn post(&self, book: &mut Book, _held: &InHand<'_>, cut: Cut) -> Result<(), NoMemory> {
         book.keeps();
         is_cut(&cut);
@@ -181,6 +166,36 @@ impl<G: Gate> Desk for DriversDesk<'_, G> {
         is_closed(&book.close_price(held.id, number, shown))
     }
 
+    fn inherit(&self, pricing: &mut Pricing, held: &InHand<'_>) {
+        pricing.go_to(held.node.depth());
+    }
+
+    fn leave(&self, pricing: &mut Pricing, held: &InHand<'_>) -> Result<(), NoMemory> {
+        pricing.keep(held.node.depth())
+    }
+
+    // Nobody else has them.
+    fn tell_number(&self, _held: &InHand<'_>, _number: u64) {}
+}
+
+// The caller's thread alone prices the root.
+impl<G: Gate> RootDesk for DriversDesk<'_, G> {
+    fn place(
+        &self,
+        book: &mut Book,
+        memory: &mut Memory,
+        held: &InHand<'_>,
+        groups: UncutGroups<'_>,
+    ) -> Result<Found, NoMemory> {
+        let asked = Asked {
+            search: self.search,
+            node: held.node,
+            best: book.best_cost(),
+            known: &*book,
+        };
+        place_uncut(self.alloc, &asked, memory, groups)
+    }
+
     fn close_swept(
         &self,
         book: &mut Book,
@@ -193,15 +208,4 @@ impl<G: Gate> Desk for DriversDesk<'_, G> {
         let _ = swept.cost();
         is_closed(&book.close_swept(held.id, number, swept))
     }
-
-    fn inherit(&self, pricing: &mut Pricing, held: &InHand<'_>) {
-        pricing.go_to(held.node.depth());
-    }
-
-    fn leave(&self, pricing: &mut Pricing, held: &InHand<'_>) -> Result<(), NoMemory> {
-        pricing.keep(held.node.depth())
-    }
-
-    // Nobody else has them.
-    fn tell_number(&self, _held: &InHand<'_>, _number: u64) {}
 }

@@ -14,7 +14,8 @@ use book_core::Book;
 use gates::Gate;
 use no_memory::NoMemory;
 use placed_groups::Memory;
-use price_search::{InHand, Pricing, price};
+use price_search::InHand;
+use root_pricing::{RootPricing, price_or_sweep};
 
 // Whether the slot was closed. Where memory was refused it wasn't.
 fn was_closed(ended: Result<bool, NoMemory>) -> bool
@@ -31,7 +32,7 @@ fn ask<G: Gate>(
     desk: &DriversDesk<'_, G>,
     book: &mut Book,
     memory: &mut Memory,
-    pricing: &mut Pricing,
+    root: &mut RootPricing,
     held: &InHand<'_>,
 ) -> bool
     requires holds { HoldsOnly book.old held.now.id held.now.node.now }
@@ -40,7 +41,7 @@ fn ask<G: Gate>(
     ensures held { OnFalse result (HoldsOnly book.new held.now.id held.now.node.now) }
     ensures driven { IsDriven book.old book.new }
 {
-    was_closed(price(desk, book, memory, pricing, held))
+    was_closed(price_or_sweep(desk, book, memory, root, held))
 }
 
 /// Asks prices about the held node, where there are any that serve, and carries out what they find;
@@ -60,10 +61,10 @@ pub(crate) fn price_held<G: Gate>(
 {
     book.keeps();
     let ships = driver.search.instance.ships.as_slice().len();
-    let Some(pricing) = &mut driver.pricing else {
+    let Some(root) = &mut driver.pricing else {
         return false;
     };
-    if !pricing.serves(held.node.depth(), ships) {
+    if !root.pricing.serves(held.node.depth(), ships) {
         return false;
     }
     let desk = DriversDesk {
@@ -71,5 +72,5 @@ pub(crate) fn price_held<G: Gate>(
         gate: driver.gate,
         search: &driver.search,
     };
-    ask(&desk, book, &mut driver.memory, pricing, held)
+    ask(&desk, book, &mut driver.memory, root, held)
 }

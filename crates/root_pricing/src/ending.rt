@@ -1,13 +1,15 @@
-//! What comes after an ascent.
+//! What comes after an ascent at the root.
 ghost use Rattle.master_branch.specs.Node.{IsNodeOf};
-ghost use Rattle.price_search.specs.Holding.{Ends, was_swept};
+ghost use Rattle.price_search.specs.Holding.{Ends};
+ghost use Rattle.root_pricing.specs.Ending.{was_swept};
 
-use crate::desk::{Desk, InHand};
-use crate::pricing::{FEW_LABELS_AT_ONCE, MOST_LABELS_AT_ONCE, Pricing};
+use crate::desk::RootDesk;
+use crate::pricing::{FEW_LABELS_AT_ONCE, MOST_LABELS_AT_ONCE, RootPricing};
 use crate::sweeping::sweep_root;
 use placed_groups::Memory;
+use price_search::InHand;
 
-/// What is next at a node whose ascent ended without closing it.
+/// What is next at the root, whose ascent ended without closing it.
 #[derive(Clone, Copy)]
 pub(crate) enum AfterAscent {
     /// Nothing: it was closed by sweeps.
@@ -18,12 +20,12 @@ pub(crate) enum AfterAscent {
     Split,
 }
 
-// Tries at the root whether few labels close it; where they don't, another ascent begins, if there is one.
-fn sweep_or_ascend<D: Desk>(
+// Tries whether few labels close the root; where they don't, another ascent begins, if there is one.
+fn sweep_or_ascend<D: RootDesk>(
     desk: &D,
     hand: &mut D::Hand,
     memory: &mut Memory,
-    pricing: &mut Pricing,
+    root: &mut RootPricing,
     held: &InHand<'_>,
 ) -> Result<AfterAscent, D::Stop>
     requires serves { D.serves desk.now hand.old }
@@ -31,13 +33,13 @@ fn sweep_or_ascend<D: Desk>(
     ensures serves { D.serves desk.now hand.new }
     ensures ends { Ends (D.holds desk.now held.now) (D.freed desk.now) hand.old hand.new (was_swept result) }
 {
-    if !pricing.may_ascend() {
+    if !root.may_ascend() {
         return Ok(AfterAscent::Split);
     }
-    if sweep_root(desk, hand, memory, pricing, held, FEW_LABELS_AT_ONCE)? {
+    if sweep_root(desk, hand, memory, root, held, FEW_LABELS_AT_ONCE)? {
         return Ok(AfterAscent::Closed);
     }
-    if pricing.ascend_again() {
+    if root.ascend_again() {
         Ok(AfterAscent::Ascend)
     } else {
         Ok(AfterAscent::Split)
@@ -46,11 +48,11 @@ fn sweep_or_ascend<D: Desk>(
 
 // What is next at the root, whose ascent ended: another one, unless few labels close it, and after the last
 // one as many as may be made.
-fn end_root<D: Desk>(
+fn end_root<D: RootDesk>(
     desk: &D,
     hand: &mut D::Hand,
     memory: &mut Memory,
-    pricing: &mut Pricing,
+    root: &mut RootPricing,
     held: &InHand<'_>,
 ) -> Result<AfterAscent, D::Stop>
     requires serves { D.serves desk.now hand.old }
@@ -58,11 +60,11 @@ fn end_root<D: Desk>(
     ensures serves { D.serves desk.now hand.new }
     ensures ends { Ends (D.holds desk.now held.now) (D.freed desk.now) hand.old hand.new (was_swept result) }
 {
-    match sweep_or_ascend(desk, hand, memory, pricing, held)? {
+    match sweep_or_ascend(desk, hand, memory, root, held)? {
         AfterAscent::Closed => Ok(AfterAscent::Closed),
         AfterAscent::Ascend => Ok(AfterAscent::Ascend),
         AfterAscent::Split => {
-            if sweep_root(desk, hand, memory, pricing, held, MOST_LABELS_AT_ONCE)? {
+            if sweep_root(desk, hand, memory, root, held, MOST_LABELS_AT_ONCE)? {
                 Ok(AfterAscent::Closed)
             } else {
                 Ok(AfterAscent::Split)
@@ -71,34 +73,14 @@ fn end_root<D: Desk>(
     }
 }
 
-// What is next at a node, of which the root alone is swept.
-fn next<D: Desk>(
-    desk: &D,
-    hand: &mut D::Hand,
-    memory: &mut Memory,
-    pricing: &mut Pricing,
-    held: &InHand<'_>,
-) -> Result<AfterAscent, D::Stop>
-    requires serves { D.serves desk.now hand.old }
-    requires node { IsNodeOf (D.instance desk.now) held.now.node.now }
-    ensures serves { D.serves desk.now hand.new }
-    ensures ends { Ends (D.holds desk.now held.now) (D.freed desk.now) hand.old hand.new (was_swept result) }
-{
-    if held.node.depth() == 0 {
-        end_root(desk, hand, memory, pricing, held)
-    } else {
-        Ok(AfterAscent::Split)
-    }
-}
-
-/// Ends an ascent at the held node. The root is swept, or another ascent begins there. A node that is split
-/// leaves its prices to the nodes below it.
+/// Ends an ascent at the root, which is held. It is swept, or another ascent begins. Where it is split, it leaves its
+/// prices to the nodes below it.
 #[inline(never)]
-pub(crate) fn end_ascent<D: Desk>(
+pub(crate) fn end_ascent<D: RootDesk>(
     desk: &D,
     hand: &mut D::Hand,
     memory: &mut Memory,
-    pricing: &mut Pricing,
+    root: &mut RootPricing,
     held: &InHand<'_>,
 ) -> Result<AfterAscent, D::Stop>
     requires serves { D.serves desk.now hand.old }
@@ -106,9 +88,9 @@ pub(crate) fn end_ascent<D: Desk>(
     ensures serves { D.serves desk.now hand.new }
     ensures ends { Ends (D.holds desk.now held.now) (D.freed desk.now) hand.old hand.new (was_swept result) }
 {
-    let after = next(desk, hand, memory, pricing, held)?;
+    let after = end_root(desk, hand, memory, root, held)?;
     if let AfterAscent::Split = after {
-        desk.leave(pricing, held)?;
+        desk.leave(&mut root.pricing, held)?;
     }
     Ok(after)
 }

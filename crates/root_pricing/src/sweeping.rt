@@ -1,80 +1,20 @@
 //! The root, swept.
 ghost use Rattle.master_branch.specs.Node.{IsNodeOf};
-ghost use Rattle.price_search.specs.Holding.{Stays, Ends, was_closed, was_ended};
+ghost use Rattle.price_search.specs.Holding.{Stays, Ends, was_closed};
+ghost use Rattle.root_pricing.specs.Ending.{was_ended};
 
-use crate::desk::{Desk, InHand};
-use crate::found::carry_out;
+use crate::desk::RootDesk;
+use crate::goals::{Goals, Rise};
 use crate::placing::UncutGroups;
-use crate::pricing::Pricing;
+use crate::pricing::RootPricing;
 use placed_groups::Memory;
+use price_search::{InHand, carry_out};
 use price_terms::{Prices, Swept};
 use sweep::{SweepEnd, SweepOutcome};
 use sweep_labels::KeptLabel;
 
 // The most sweeps at the root.
 const MOST_SWEEPS: u32 = 200;
-
-/// How costs rise to the best one.
-#[derive(Clone, Copy)]
-pub(crate) enum Rise {
-    /// By steps.
-    Steps,
-    /// By steps first; at once where labels run out though no cost took as many as it may.
-    StepsFirst,
-    /// At once.
-    AtOnce,
-}
-
-/// Costs, in minutes: what prices reach, what prices or a sweep have reached, and the best one, which is to be
-/// swept with so many labels for one cost at the most. What a sweep takes hangs on how far its cost is above
-/// what prices reach.
-#[derive(Clone, Copy)]
-pub(crate) struct Goals {
-    pub(crate) low: u64,
-    pub(crate) reached: u64,
-    pub(crate) best: u64,
-    pub(crate) labels: u64,
-    pub(crate) rise: Rise,
-}
-
-impl Goals {
-    // A cost of these, or the one below the best cost where that is swept at once.
-    fn below(&self, cost: u64) -> u64 {
-        match self.rise {
-            Rise::AtOnce => self.best.saturating_sub(1),
-            Rise::Steps | Rise::StepsFirst => cost,
-        }
-    }
-
-    /// From where the costs of a sweep rise.
-    pub(crate) fn lowest(&self) -> u64 {
-        self.below(self.low)
-    }
-
-    /// The cost behind which a sweep begins.
-    pub(crate) fn first(&self) -> u64 {
-        self.below(self.reached)
-    }
-
-    /// How many labels a sweep leaves.
-    pub(crate) fn spared(&self) -> u64 {
-        match self.rise {
-            Rise::StepsFirst => self.labels,
-            Rise::Steps | Rise::AtOnce => 0,
-        }
-    }
-
-    // Where labels ran out, the last cost of a sweep taking so many: whether the best cost is swept at once now.
-    fn jump(&mut self, last: usize) -> bool {
-        match self.rise {
-            Rise::StepsFirst if (last as u64) < self.labels => {
-                self.rise = Rise::AtOnce;
-                true
-            }
-            _ => false,
-        }
-    }
-}
 
 /// What becomes of the root after a sweep.
 #[derive(Clone, Copy)]
@@ -88,7 +28,7 @@ pub(crate) enum AfterSweep {
 }
 
 // Closes the held root, of which it was shown by these prices that the best cost is swept.
-fn close_swept<D: Desk>(
+fn close_swept<D: RootDesk>(
     desk: &D,
     hand: &mut D::Hand,
     held: &InHand<'_>,
@@ -110,7 +50,7 @@ fn close_swept<D: Desk>(
 }
 
 // Places uncut groups that a sweep found; whether that gave a better plan or new cuts.
-fn place<D: Desk>(
+fn place<D: RootDesk>(
     desk: &D,
     hand: &mut D::Hand,
     memory: &mut Memory,
@@ -139,7 +79,7 @@ struct PlanCost<'a, 'p> {
 // What becomes of the held root once the uncut plan of a cost that was swept is placed: where it is the best
 // plan, that closes it. Where nothing was new, the next sweep would find the same; else it finds no plan of
 // groups that don't fit, as far as labels went on by them.
-fn end_placed<D: Desk>(
+fn end_placed<D: RootDesk>(
     desk: &D,
     hand: &mut D::Hand,
     memory: &mut Memory,
@@ -163,11 +103,11 @@ fn end_placed<D: Desk>(
 }
 
 // Sweeps the best cost, and carries out what that shows.
-fn sweep_once<D: Desk>(
+fn sweep_once<D: RootDesk>(
     desk: &D,
     hand: &mut D::Hand,
     memory: &mut Memory,
-    pricing: &mut Pricing,
+    root: &mut RootPricing,
     held: &InHand<'_>,
     goals: &mut Goals,
 ) -> Result<AfterSweep, D::Stop>
@@ -176,16 +116,16 @@ fn sweep_once<D: Desk>(
     ensures serves { D.serves desk.now hand.new }
     ensures ends { Ends (D.holds desk.now held.now) (D.freed desk.now) hand.old hand.new (was_ended result) }
 {
-    desk.learn(hand, pricing, held)?;
+    desk.learn(hand, &mut root.pricing, held)?;
     goals.best = desk.best_cost(hand, held);
-    let prices = pricing.ascent.best().copy();
+    let prices = root.pricing.best().copy();
     let Some(
         SweepOutcome {
             end,
             last: labels,
             ..
         },
-    ) = pricing.sweep(desk.alloc(), desk.instance(), &prices, goals)
+    ) = root.sweep(desk.alloc(), desk.instance(), &prices, goals)
     else {
         return Ok(AfterSweep::Open);
     };
@@ -214,11 +154,11 @@ fn sweep_once<D: Desk>(
 
 /// Sweeps costs from what the root reaches by its best prices up to the best cost, which closes it, as
 /// far as labels are left and no cost takes more than so many; whether it was closed.
-pub(crate) fn sweep_root<D: Desk>(
+pub(crate) fn sweep_root<D: RootDesk>(
     desk: &D,
     hand: &mut D::Hand,
     memory: &mut Memory,
-    pricing: &mut Pricing,
+    root: &mut RootPricing,
     held: &InHand<'_>,
     labels: u64,
 ) -> Result<bool, D::Stop>
@@ -227,8 +167,8 @@ pub(crate) fn sweep_root<D: Desk>(
     ensures serves { D.serves desk.now hand.new }
     ensures ends { Ends (D.holds desk.now held.now) (D.freed desk.now) hand.old hand.new (was_closed result) }
 {
-    let low = pricing.reached();
-    let rise = if pricing.may_jump() {
+    let low = root.pricing.reached();
+    let rise = if root.may_jump() {
         Rise::StepsFirst
     } else {
         Rise::Steps
@@ -241,7 +181,7 @@ pub(crate) fn sweep_root<D: Desk>(
         rise,
     };
     for _ in 0..MOST_SWEEPS {
-        match sweep_once(desk, hand, memory, pricing, held, &mut goals)? {
+        match sweep_once(desk, hand, memory, root, held, &mut goals)? {
             AfterSweep::Closed => return Ok(true),
             AfterSweep::Again => {}
             AfterSweep::Open => return Ok(false),

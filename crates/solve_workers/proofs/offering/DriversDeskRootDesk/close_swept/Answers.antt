@@ -5,7 +5,7 @@ use Rattle.book_core.proofs.SweepingLemmas.{swept-owed}
 use Rattle.solve_workers.proofs.DeskLemmas.{ends_held}
 use Rattle.solve_workers.proofs.DrivenLemmas.{driven_by}
 use Rattle.solve_workers.proofs.PriceLemmas.{swept_shut, swept_kept}
-use Rattle.solve_workers.proofs.offering.DriversDeskDesk.close_swept.Goals as goal
+use Rattle.solve_workers.proofs.offering.DriversDeskRootDesk.close_swept.Goals as goal
 
 pub returns-clause-ends : goal.returns-clause-ends
 returns-clause-ends g c =

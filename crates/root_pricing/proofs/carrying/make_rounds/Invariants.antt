@@ -1,5 +1,5 @@
 use Rattle.price_search.specs.Holding.{Stays}
-use Rattle.price_search.proofs.sweeping.sweep_root.Given as goal
+use Rattle.root_pricing.proofs.carrying.make_rounds.Given as goal
 
 abbrev pub invariant-loop : goal.invariant-loop
 invariant-loop g l =

@@ -1,5 +1,5 @@
 use Rattle.std.proofs.Common.{◌≡◌}
-use Rattle.price_search.proofs.placing.place_steps.Given as goal
+use Rattle.root_pricing.proofs.placing.place_steps.Given as goal
 
 abbrev pub invariant-loop-kept : goal.invariant-loop-kept
 invariant-loop-kept g l = l.placer.search.now.instance.now ≡ l.instance
