@@ -16,8 +16,8 @@ pub(crate) const FEW_LABELS_AT_ONCE: u64 = 30_000;
 // So many times the most labels for one cost all costs of a sweep may take: each takes some times as many as the
 // one before.
 const COSTS_OF_A_SWEEP: u64 = 4;
-// The most groups of a chamber and way that a sweep of many ships grows at once: where chambers take six ships at
-// a time, costs far above what prices reach ask for so many.
+// The most groups of a chamber and way that a sweep grows at once: where chambers take six ships and more at a time,
+// costs far above what prices reach ask for so many.
 const MOST_SWEPT_GROUPS: usize = 600_000;
 // The most ascents at the root after its first one, each with more triples.
 const MORE_ASCENTS: u32 = 3;
@@ -42,14 +42,6 @@ const SLOW_PACE: Pace = Pace {
     spans: 40,
     from_best: 0,
 };
-
-// How many groups of a chamber and way a sweep may grow at once.
-fn swept_groups(first: FirstNode) -> usize {
-    match first {
-        FirstNode::Long | FirstNode::Steady => LIMITS.groups,
-        FirstNode::Lasting => MOST_SWEPT_GROUPS,
-    }
-}
 
 // How many ascents with triples may follow the first one. Where chambers take two ships at a time, a third one
 // gains little; a table of many ships takes too long.
@@ -151,7 +143,7 @@ impl RootPricing {
         let limits = SweepLimits {
             labels: goals.labels as usize,
             all,
-            groups: swept_groups(self.first),
+            groups: MOST_SWEPT_GROUPS,
             turns: LIMITS.turns,
         };
         match sweep(alloc, &asked, limits) {
