@@ -22,21 +22,21 @@ pub(crate) struct GroupAsked<'i> {
     pub(crate) ships: &'i Ships,
 }
 
-// Some of the ships, and a refutation of their deck.
+/// Some of the ships, and a refutation of their deck.
 #[derive(Drop)]
-struct Part {
-    ships: Ships,
-    refutation: Refutation,
+pub(crate) struct Part {
+    pub(crate) ships: Ships,
+    pub(crate) refutation: Refutation,
 }
 
-// Appends a ship of these, unless it is the one that is left out.
-fn add_kept(ships: &Ships, gone: u8, ship: u8, fewer: &mut Ships)
+/// Appends a ship of these, if it is to be kept.
+pub(crate) fn add_kept(ships: &Ships, is_kept: bool, ship: u8, fewer: &mut Ships)
     requires below { All (λ s. s < ship) fewer.old }
     requires among { All (Contains ships.now) fewer.old }
     ensures below { All (λ s. s < ship + 1) fewer.new }
     ensures among { All (Contains ships.now) fewer.new }
 {
-    if ship != gone && is_among(ship, ships.as_slice()) && fewer.len() < MOST {
+    if is_kept && is_among(ship, ships.as_slice()) && fewer.len() < MOST {
         fewer.push(ship);
     }
 }
@@ -47,14 +47,14 @@ fn without(ships: &Ships, gone: u8) -> Ships
 {
     let mut fewer = Ships::new();
     for ship in 0..SHIPS as u8 {
-        add_kept(ships, gone, ship, &mut fewer);
+        add_kept(ships, ship != gone, ship, &mut fewer);
     }
     fewer
 }
 
-// The part of these ships, where the placer by berths refutes them.
+/// The part of these ships, where the placer by berths refutes them.
 #[tactic(auto, using(crate::proofs::CutLemmas::part_is))]
-fn berth_part(
+pub(crate) fn berth_part(
     alloc: Global,
     asked: &GroupAsked<'_>,
     ships: Ships,
@@ -128,27 +128,33 @@ fn is_left_out_first(first: FirstPlacer, refutation: &Refutation) -> bool {
     }
 }
 
-// The least part where ships are left out first, or all of them.
+/// All of the ships, with a refutation of their deck.
 #[tactic(auto, using(crate::proofs::CutLemmas::whole_is))]
+pub(crate) fn whole_part(asked: &GroupAsked<'_>, refutation: Refutation) -> Part
+    requires some { 1 ≤ length asked.now.ships.now }
+    requires refuted { IsRefuted (deck_of asked.now.instance.now asked.now.chamber asked.now.ships.now) refutation }
+    ensures { IsPartOf asked.now.instance.now asked.now.chamber asked.now.ships.now result.ships result.refutation }
+{
+    Part {
+        ships: asked.ships.copy(),
+        refutation,
+    }
+}
+
+// The least part where ships are left out first, or the part itself.
 fn begun_part(
     alloc: Global,
     asked: &GroupAsked<'_>,
     first: FirstPlacer,
-    refutation: Refutation,
+    part: Part,
     turns: u32,
 ) -> Result<Part, NoMemory>
     requires chamber_in { asked.now.chamber < length asked.now.instance.now.chambers }
     requires ships_in { All (λ s. s < length asked.now.instance.now.ships) asked.now.ships.now }
-    requires some { 1 ≤ length asked.now.ships.now }
-    requires refuted { IsRefuted (deck_of asked.now.instance.now asked.now.chamber asked.now.ships.now) refutation }
+    requires part { IsPartOf asked.now.instance.now asked.now.chamber asked.now.ships.now part.ships part.refutation }
     ensures { IfOk result (λ begun. IsPartOf asked.now.instance.now asked.now.chamber asked.now.ships.now begun.ships begun.refutation) }
 {
-    let is_first = is_left_out_first(first, &refutation);
-    let part = Part {
-        ships: asked.ships.copy(),
-        refutation,
-    };
-    if is_first {
+    if is_left_out_first(first, &part.refutation) {
         least_part(alloc, asked, part, turns)
     } else {
         Ok(part)
@@ -192,17 +198,16 @@ pub(crate) fn cut_of(
     alloc: Global,
     asked: &GroupAsked<'_>,
     first: FirstPlacer,
-    refutation: Refutation,
+    part: Part,
     turns: u32,
 ) -> Result<Cut, NoMemory>
     requires chamber_in { asked.now.chamber < length asked.now.instance.now.chambers }
     requires ships_in { All (λ s. s < length asked.now.instance.now.ships) asked.now.ships.now }
-    requires some { 1 ≤ length asked.now.ships.now }
     requires turns { 1 ≤ turns }
-    requires refuted { IsRefuted (deck_of asked.now.instance.now asked.now.chamber asked.now.ships.now) refutation }
+    requires part { IsPartOf asked.now.instance.now asked.now.chamber asked.now.ships.now part.ships part.refutation }
     ensures { IfOk result (IsCutOfPart first asked.now.instance.now asked.now.chamber asked.now.ships.now turns) }
 {
-    let begun = begun_part(alloc, asked, first, refutation, turns)?;
+    let begun = begun_part(alloc, asked, first, part, turns)?;
     let Part {
         ships: own,
         refutation: why,

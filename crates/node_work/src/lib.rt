@@ -31,6 +31,7 @@ mod first_placer;
 mod group_fate;
 mod inner;
 mod known_cuts;
+mod largest;
 mod last;
 mod leaf;
 mod moorings;

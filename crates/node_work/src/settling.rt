@@ -1,12 +1,14 @@
 //! What the placers find of the ships of a chamber.
-ghost use Rattle.std.specs.Prelude.{◌≡◌, ◌<◌, ◌≤◌, length, All, IfOk, IfSome};
+ghost use Rattle.std.specs.Prelude.{◌≡◌, ◌<◌, ◌≤◌, length, All, IfOk, IfSome, IfNone};
+ghost use Rattle.lock_model.specs.Fitting.{deck_of};
 ghost use Rattle.lock_model.specs.Placement.{IsLegalPlacement};
 ghost use Rattle.lock_model.specs.Cargo.{HasNoClash};
 ghost use Rattle.refute_rules.specs.Cases.{IsHard};
-ghost use Rattle.node_work.specs.Settling.{IsAnswered, IsSettled};
+ghost use Rattle.node_work.specs.Settling.{IsAnswered, IsPartOf, IsSettled};
 
-use crate::cutting::{GroupAsked, cut_of};
+use crate::cutting::{GroupAsked, Part, cut_of, whole_part};
 use crate::first_placer::FirstPlacer;
+use crate::largest::large_part;
 use berth_place::{BerthPlaced, place_by_berths};
 use chamber_place::{Placed, place};
 use deck_cuts::{Cut, Hard, HardSpots};
@@ -42,6 +44,9 @@ pub(crate) enum Answer {
 
 // The most turns that `place` is asked before the placer by berths, where `place` comes first.
 const FIRST_TURNS: u32 = 500;
+
+// The most options that the placer by berths tries before the largest ships are asked about alone.
+const SOON_TRIES: u32 = 4_000;
 
 // How many turns the placer by berths has for each turn of the others, where these have many. Its
 // turns are short, since most of its options are faults, and the others seldom decide what it can't.
@@ -136,44 +141,58 @@ fn ask_by_berths(alloc: Global, deck: &Deck, turns: u32) -> Result<Answer, NoMem
     }
 }
 
-// Asks `place` with its first turns, and the placer by berths where these are spent.
-fn ask_cases_first(alloc: Global, deck: &Deck, turns: u32) -> Result<Answer, NoMemory>
+// Asks the placer by berths with few tries, where its turns are many.
+fn ask_berths_soon(alloc: Global, deck: &Deck, turns: u32) -> Result<Option<Answer>, NoMemory>
+    requires clear { HasNoClash deck.now }
+    ensures { IfOk result (λ found. IfSome found (IsAnswered deck.now turns)) }
+{
+    if turns <= FIRST_TURNS {
+        return Ok(None);
+    }
+    match place_by_berths(alloc, deck, SOON_TRIES)? {
+        BerthPlaced::Fits(spots) => Ok(Some(Answer::Fits(spots))),
+        BerthPlaced::Refuted(marks) => Ok(Some(Answer::Refuted(Refutation::Berths(marks)))),
+        BerthPlaced::Spent(_) => Ok(None),
+    }
+}
+
+// Asks `place` with its first turns, and the placer by berths with few where these are spent.
+fn ask_cases_first(alloc: Global, deck: &Deck, turns: u32) -> Result<Option<Answer>, NoMemory>
     requires turns { 1 ≤ turns }
     requires clear { HasNoClash deck.now }
-    ensures { IfOk result (IsAnswered deck.now turns) }
+    ensures { IfOk result (λ found. IfSome found (IsAnswered deck.now turns)) }
 {
     match place(alloc, deck, first_turns(turns))? {
-        Placed::Fits(spots) => Ok(Answer::Fits(spots)),
-        Placed::Refuted(refutation) => Ok(Answer::Refuted(refutation)),
-        Placed::Spent(_) => ask_by_berths(alloc, deck, turns),
+        Placed::Fits(spots) => Ok(Some(Answer::Fits(spots))),
+        Placed::Refuted(refutation) => Ok(Some(Answer::Refuted(refutation))),
+        Placed::Spent(_) => ask_berths_soon(alloc, deck, turns),
     }
 }
 
-// Asks the placer by berths, of decks that have no quick reason.
-fn ask_berths_first(alloc: Global, deck: &Deck, turns: u32) -> Result<Answer, NoMemory>
-    requires turns { 1 ≤ turns }
+// Asks the placer by berths with few tries, of decks that have no quick reason.
+fn ask_berths_first(alloc: Global, deck: &Deck, turns: u32) -> Result<Option<Answer>, NoMemory>
     requires clear { HasNoClash deck.now }
-    ensures { IfOk result (IsAnswered deck.now turns) }
+    ensures { IfOk result (λ found. IfSome found (IsAnswered deck.now turns)) }
 {
     match find_reason(deck) {
-        Some(reason) => Ok(Answer::Refuted(Refutation::Quick(reason))),
-        None => ask_by_berths(alloc, deck, turns),
+        Some(reason) => Ok(Some(Answer::Refuted(Refutation::Quick(reason)))),
+        None => ask_berths_soon(alloc, deck, turns),
     }
 }
 
-// Asks the placers about ships of which no two clash.
+// Asks the placers with few turns about ships of which no two clash.
 fn ask_in_turn(
     alloc: Global,
     deck: &Deck,
     first: FirstPlacer,
     turns: u32,
-) -> Result<Answer, NoMemory>
+) -> Result<Option<Answer>, NoMemory>
     requires turns { 1 ≤ turns }
     requires clear { HasNoClash deck.now }
-    ensures { IfOk result (IsAnswered deck.now turns) }
+    ensures { IfOk result (λ found. IfSome found (IsAnswered deck.now turns)) }
 {
     if let Some(spots) = spots_alone(deck) {
-        return Ok(Answer::Fits(spots));
+        return Ok(Some(Answer::Fits(spots)));
     }
     match first {
         FirstPlacer::Cases => ask_cases_first(alloc, deck, turns),
@@ -181,25 +200,98 @@ fn ask_in_turn(
     }
 }
 
-// Finds out whether the ships of this deck fit it.
-fn ask(alloc: Global, deck: &Deck, first: FirstPlacer, turns: u32) -> Result<Answer, NoMemory>
-    requires { 1 ≤ turns }
-    ensures { IfOk result (IsAnswered deck.now turns) }
+// What is found soon of the ships of this deck.
+fn ask_soon(
+    alloc: Global,
+    deck: &Deck,
+    first: FirstPlacer,
+    turns: u32,
+) -> Result<Option<Answer>, NoMemory>
+    requires turns { 1 ≤ turns }
+    ensures answer { IfOk result (λ found. IfSome found (IsAnswered deck.now turns)) }
+    ensures clear { IfOk result (λ found. IfNone found (HasNoClash deck.now)) }
 {
     match first_clash(deck) {
-        Some((one, other)) => Ok(Answer::Refuted(Refutation::Clash(one, other))),
+        Some((one, other)) => Ok(Some(Answer::Refuted(Refutation::Clash(one, other)))),
         None => ask_in_turn(alloc, deck, first, turns),
     }
 }
 
+// A refuted part of the largest ships. Few tries tell most of those that are refuted, and of those that
+// aren't the smallest tree is asked for.
+fn refuted_large(
+    alloc: Global,
+    asked: &GroupAsked<'_>,
+    turns: u32,
+) -> Result<Option<Part>, NoMemory>
+    requires chamber_in { asked.now.chamber < length asked.now.instance.now.chambers }
+    requires ships_in { All (λ s. s < length asked.now.instance.now.ships) asked.now.ships.now }
+    ensures { IfOk result (λ found. IfSome found (λ part. IsPartOf asked.now.instance.now asked.now.chamber asked.now.ships.now part.ships part.refutation)) }
+{
+    if turns <= FIRST_TURNS {
+        return Ok(None);
+    }
+    if let Some(part) = large_part(alloc, asked, turns / BERTHS_A_TURN)? {
+        return Ok(Some(part));
+    }
+    if let Some(part) = large_part(alloc, asked, turns)? {
+        return Ok(Some(part));
+    }
+    large_part(alloc, asked, berth_turns(turns))
+}
+
+// The cut of a refuted part, which hits all of the ships.
 #[tactic(auto, using(crate::proofs::CutLemmas::cut_settles))]
+fn refuted_by(
+    alloc: Global,
+    asked: &GroupAsked<'_>,
+    first: FirstPlacer,
+    part: Part,
+    turns: u32,
+) -> Result<Settled, NoMemory>
+    requires chamber_in { asked.now.chamber < length asked.now.instance.now.chambers }
+    requires ships_in { All (λ s. s < length asked.now.instance.now.ships) asked.now.ships.now }
+    requires turns { 1 ≤ turns }
+    requires part { IsPartOf asked.now.instance.now asked.now.chamber asked.now.ships.now part.ships part.refutation }
+    ensures { IfOk result (IsSettled asked.now.instance.now asked.now.chamber asked.now.ships.now turns) }
+{
+    let cut = cut_of(alloc, asked, first, part, turns)?;
+    Ok(Settled::Refuted(cut))
+}
+
+// What an answer of the deck of these ships comes to.
+fn answered(
+    alloc: Global,
+    asked: &GroupAsked<'_>,
+    first: FirstPlacer,
+    answer: Answer,
+    turns: u32,
+) -> Result<Settled, NoMemory>
+    requires chamber_in { asked.now.chamber < length asked.now.instance.now.chambers }
+    requires ships_in { All (λ s. s < length asked.now.instance.now.ships) asked.now.ships.now }
+    requires some { 1 ≤ length asked.now.ships.now }
+    requires turns { 1 ≤ turns }
+    requires answer { IsAnswered (deck_of asked.now.instance.now asked.now.chamber asked.now.ships.now) turns answer }
+    ensures { IfOk result (IsSettled asked.now.instance.now asked.now.chamber asked.now.ships.now turns) }
+{
+    match answer {
+        Answer::Fits(spots) => Ok(Settled::Fits(spots)),
+        Answer::Spent(hard, spots) => Ok(Settled::Spent(hard, spots)),
+        Answer::Refuted(refutation) => {
+            let part = whole_part(asked, refutation);
+            refuted_by(alloc, asked, first, part, turns)
+        }
+    }
+}
+
 /// Finds out whether ships fit a chamber, within so many turns of each placer. Two ships that clash
 /// refute it, and a ship that fits alone lies at the near end of the left quay. For all others the
 /// placers are asked, each where those before it were spent: `place` with at most 500 of the turns, or
 /// only a quick reason is looked for where the placer by berths is to come first; then
-/// `place_by_berths` with eight times the turns, or as many where they are fewer than 500, and `place`
-/// and `place_by_spots` with all turns. So `Spent` comes only where all three gave up. Its only
-/// refusal is want of memory.
+/// `place_by_berths`, and `place` and `place_by_spots` with all turns. Where there are more than 500
+/// turns, `place_by_berths` tries 4,000 options of all ships, then has the turns for the largest ships
+/// alone, from five up, and eight times the turns for all. So `Spent` comes only where all three gave
+/// up on all of the ships. Its only refusal is want of memory.
 pub(crate) fn settle(
     alloc: Global,
     asked: &GroupAsked<'_>,
@@ -213,12 +305,12 @@ pub(crate) fn settle(
     ensures { IfOk result (IsSettled asked.now.instance.now asked.now.chamber asked.now.ships.now turns) }
 {
     let deck = deck_of(asked.instance, asked.chamber, asked.ships);
-    match ask(alloc, &deck, first, turns)? {
-        Answer::Fits(spots) => Ok(Settled::Fits(spots)),
-        Answer::Spent(hard, spots) => Ok(Settled::Spent(hard, spots)),
-        Answer::Refuted(refutation) => {
-            let cut = cut_of(alloc, asked, first, refutation, turns)?;
-            Ok(Settled::Refuted(cut))
-        }
+    if let Some(answer) = ask_soon(alloc, &deck, first, turns)? {
+        return answered(alloc, asked, first, answer, turns);
     }
+    if let Some(part) = refuted_large(alloc, asked, turns)? {
+        return refuted_by(alloc, asked, first, part, turns);
+    }
+    let answer = ask_by_berths(alloc, &deck, turns)?;
+    answered(alloc, asked, first, answer, turns)
 }
