@@ -217,8 +217,8 @@ fn ask_soon(
     }
 }
 
-// A refuted part of the largest ships. Few tries tell most of those that are refuted, and of those that
-// aren't the smallest tree is asked for.
+// A part of the largest ships that the placer by berths refutes. More tries come only after fewer
+// refuted no part, so that the tree is small.
 fn refuted_large(
     alloc: Global,
     asked: &GroupAsked<'_>,
@@ -288,10 +288,11 @@ fn answered(
 /// refute it, and a ship that fits alone lies at the near end of the left quay. For all others the
 /// placers are asked, each where those before it were spent: `place` with at most 500 of the turns, or
 /// only a quick reason is looked for where the placer by berths is to come first; then
-/// `place_by_berths`, and `place` and `place_by_spots` with all turns. Where there are more than 500
-/// turns, `place_by_berths` tries 4,000 options of all ships, then has the turns for the largest ships
-/// alone, from five up, and eight times the turns for all. So `Spent` comes only where all three gave
-/// up on all of the ships. Its only refusal is want of memory.
+/// `place_by_berths` with eight times the turns, or as many where they are fewer than 500, and `place`
+/// and `place_by_spots` with all turns. Of more than 500 turns, `place_by_berths` first tries 4,000
+/// options, and then asks about the largest ships alone, from five to all but one, of which a smaller
+/// tree may refute all. So `Spent` comes only where all three gave up on all of the ships. Its only
+/// refusal is want of memory.
 pub(crate) fn settle(
     alloc: Global,
     asked: &GroupAsked<'_>,
