@@ -8,7 +8,7 @@ use crate::first_placer::FirstPlacer;
 use crate::last::is_among;
 use berth_place::{BerthPlaced, place_by_berths};
 use chamber_place::shrink;
-use deck_cuts::Cut;
+use deck_cuts::{Cut, copy_cut};
 use lock_model::{Instance, MOST, SHIPS, Ships, deck_of};
 use no_memory::NoMemory;
 use refute_rules::Refutation;
@@ -189,9 +189,9 @@ fn shrink_turns(first: FirstPlacer, refutation: &Refutation, turns: u32) -> u32
     }
 }
 
-/// The cut of ships whose deck is refuted. Where a berth tree refutes it, or the placer by berths comes
-/// first and no two ships clash, ships are left out as long as that placer refutes the rest, with these
-/// turns each time; then the cut is no larger than it has to be for `place` with one turn. Any other
+/// The cut of a refuted part. Where a berth tree refutes it, or the placer by berths comes first and
+/// no two ships clash, ships are left out as long as that placer refutes the rest, with these turns
+/// each time; then the cut is no larger than it has to be for `place` with one turn. Any other
 /// cut is no larger than it has to be for `place` with all turns.
 #[tactic(auto, using(crate::proofs::CutLemmas::as_many, crate::proofs::CutLemmas::cut_from))]
 pub(crate) fn cut_of(
@@ -214,5 +214,7 @@ pub(crate) fn cut_of(
     } = begun;
     let deck = deck_of(asked.instance, asked.chamber, &own);
     let few = shrink_turns(first, &why, turns);
-    shrink(alloc, asked.chamber, &own, &deck, why, few)
+    let cut = shrink(alloc, asked.chamber, &own, &deck, why, few)?;
+    // a tree grew by doubling, and its copy has no more room than it needs
+    copy_cut(&cut)
 }

@@ -14,9 +14,9 @@
 //! split: there nothing rests on it.
 //!
 //! What is found of a group's ships (`settle_known`) comes from three placers, asked one after the
-//! other (`settling`), and the cut of what one of them refutes is shrunk (`cutting`). The groups of a
-//! node are asked about by cases first, and those that prices propose by berths (`FirstPlacer`), since
-//! they crowd the deck.
+//! other (`settling`), the one by berths about the largest ships before all (`largest`), and the cut of
+//! what one of them refutes is shrunk (`cutting`). The groups of a node are asked about by cases first,
+//! and those that prices propose by berths (`FirstPlacer`), since they crowd the deck.
 //!
 //! Definitions: `specs/Fates` (what becomes of a node), `Known` (cuts of a book), `Settling` (what is
 //! found of a group), `Last` (the group that a ship is in), `Moorings` (where the groups of a node
