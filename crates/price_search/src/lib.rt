@@ -41,4 +41,4 @@ pub use found::{Found, carry_out};
 pub use offers::{Offer, Offers};
 pub use placing::Placer;
 pub use pricing::{FirstNode, MOST_AT_A_NODE, Pricing};
-pub use round::{Asked, LIMITS, Round, RoundEnd};
+pub use round::{Asked, ROOT_LIMITS, Round, RoundEnd};

@@ -6,7 +6,6 @@ ghost use Rattle.price_search.specs.Showing.{IsShownOf};
 
 use crate::appending::append;
 use crate::offers::Offer;
-use crate::round::LIMITS;
 use lock_model::Instance;
 use master_branch::Node;
 use near_plan::Moves;
@@ -314,7 +313,7 @@ impl Pricing {
     }
 
     /// Shows that a node reaches a cost, in minutes, by these prices and the book's first cuts. None where
-    /// it doesn't, where that takes more than `LIMITS`, or for want of memory.
+    /// it doesn't, where that takes more than `limits`, or for want of memory.
     pub fn show<'a>(
         &'a mut self,
         instance: &'a Instance,
@@ -325,13 +324,14 @@ impl Pricing {
         requires { IsNodeOf instance.now node.now }
         ensures { IfSome result (IsShownOf instance.now node.now prices.now self.old.cuts.items cost) }
     {
+        let limits = self.limits(node.depth());
         let asked = PricedNode {
             instance,
             node,
             prices,
             cuts: self.cuts.as_slice(),
         };
-        match show(&mut self.kept, &asked, cost, LIMITS) {
+        match show(&mut self.kept, &asked, cost, limits) {
             Ok(shown) => shown,
             Err(_) => None,
         }

@@ -4,7 +4,7 @@ ghost use Rattle.master_branch.specs.Node.{IsNodeOf};
 
 use crate::found::Found;
 use crate::placing::Placer;
-use crate::pricing::Pricing;
+use crate::pricing::{FirstNode, Pricing};
 use crate::seeding::seed_cuts;
 use lock_model::{CHAMBERS, Group, Instance};
 use master_branch::{Node, arrival_order};
@@ -17,9 +17,15 @@ use price_raise::Stands;
 use price_terms::{Limits, LooseLines, PriceError, Prices};
 use std::alloc::Global;
 
-/// The limits of the tables that a search works out. Where a chamber takes six of twenty ships of one way
-/// there are 60,000 groups, and without prices such a search closes nothing and knows no low.
-pub const LIMITS: Limits = Limits {
+/// The limits of the tables of a root of few ships. Where a chamber takes seven of 24 ships of one way there
+/// are 536,154 groups, and without prices such a search closes nothing and knows no low.
+pub const ROOT_LIMITS: Limits = Limits {
+    groups: 1_000_000,
+    turns: 2_000_000,
+};
+
+// The limits of any other table that a search works out: there are many, and each takes longer.
+const LIMITS: Limits = Limits {
     groups: 200_000,
     turns: 400_000,
 };
@@ -163,7 +169,7 @@ impl Pricing {
     }
 
     /// Makes a round at a node to which the pricing went, and which has the book's first cuts. The node
-    /// is asked for no more where the sets of ships or the states are too many (`LIMITS`) and no cut is
+    /// is asked for no more where the sets of ships or the states are too many (`limits`) and no cut is
     /// found that makes them fewer, or all rounds of the search were made. Its only refusal is want of memory.
     pub fn round<K: KnownCuts>(
         &mut self,
@@ -224,15 +230,24 @@ impl Pricing {
         })
     }
 
+    /// The limits of the tables of a node of this depth.
+    pub(crate) fn limits(&self, depth: u8) -> Limits {
+        match self.first {
+            FirstNode::Long | FirstNode::Steady if depth == 0 => ROOT_LIMITS,
+            FirstNode::Long | FirstNode::Steady | FirstNode::Lasting => LIMITS,
+        }
+    }
+
     // The least lines of the node by the prices that are tried.
     fn least<K: KnownCuts>(&mut self, asked: &Asked<'_, K>) -> Result<Least, NoMemory> {
+        let limits = self.limits(asked.node.depth());
         let priced = PricedNode {
             instance: asked.search.instance,
             node: asked.node,
             prices: self.ascent.tried(),
             cuts: self.cuts.as_slice(),
         };
-        match least_lines(&mut self.kept, &priced, LIMITS) {
+        match least_lines(&mut self.kept, &priced, limits) {
             Ok(Some(lines)) => Ok(Least::Lines(lines)),
             Ok(None) => Ok(Least::NoLine),
             Err(PriceError::TooMany) => Ok(Least::TooMany),

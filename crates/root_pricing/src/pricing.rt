@@ -4,7 +4,7 @@ use crate::goals::Goals;
 use lock_model::Instance;
 use no_memory::NoMemory;
 use price_raise::Pace;
-use price_search::{FirstNode, LIMITS, Pricing};
+use price_search::{FirstNode, Pricing, ROOT_LIMITS};
 use price_terms::Prices;
 use std::alloc::Global;
 use sweep::{SweepAsked, SweepLimits, SweepOutcome, sweep};
@@ -144,7 +144,7 @@ impl RootPricing {
             labels: goals.labels as usize,
             all,
             groups: MOST_SWEPT_GROUPS,
-            turns: LIMITS.turns,
+            turns: ROOT_LIMITS.turns,
         };
         match sweep(alloc, &asked, limits) {
             Ok(outcome) => {

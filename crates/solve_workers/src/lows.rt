@@ -9,7 +9,7 @@ use book_core::{Book, Case};
 use book_rules::SlotState;
 use master_branch::root;
 use price_bound::{KeptLines, PricedNode, greatest_cost, show, shown_below};
-use price_search::LIMITS;
+use price_search::ROOT_LIMITS;
 use price_terms::{Prices, Shown};
 use search_book::learn_cuts;
 use std::alloc::Global;
@@ -80,14 +80,14 @@ fn show_of_slots(book: &mut Book, number: u64, shown: &Shown<'_>)
 }
 
 // Shows the greatest cost, up to the most in minutes, that a node reaches. None where that takes more than
-// `LIMITS`, for want of memory, and where no cost is reached.
+// `ROOT_LIMITS`, for want of memory, and where no cost is reached.
 fn greatest_shown<'a>(alloc: Global, asked: &PricedNode<'a>, most: u64) -> Option<Shown<'a>>
     ensures root { IfSome result (λ shown. shown.node ≡ asked.now.node.now) }
     ensures instance { IfSome result (λ shown. shown.instance ≡ asked.now.instance.now) }
 {
     let mut kept = KeptLines::new(alloc);
-    match greatest_cost(&mut kept, asked, most, LIMITS) {
-        Ok(cost) => show(&mut kept, asked, cost, LIMITS).unwrap_or(None),
+    match greatest_cost(&mut kept, asked, most, ROOT_LIMITS) {
+        Ok(cost) => show(&mut kept, asked, cost, ROOT_LIMITS).unwrap_or(None),
         Err(_) => None,
     }
 }
