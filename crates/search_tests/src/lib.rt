@@ -1,17 +1,43 @@
-//! Tests of books, and of what searches them: one worker, the caller alone, and several in threads.
+//! Tests of what the program searches by, each over the public items of the crate that it names.
 //!
-//! `books` tests the book (`book_core`), `worker` one worker (`search_worker`), and `searches` whole searches
-//! (`solve_workers`). What a method of a book changes, also through the lock, its contract says, and so where
-//! the check rejects a certificate that no text has. What prices find at a node rows of whole runs show, and
-//! that who waits for the lock is told, and that workers share costs, `program_tests`. A crate with tests is
-//! proved twice, so they stand in a crate of their own, which has no code but them.
+//! Decks and placers stand in `decks`: `deck_laws` (`laws`), `ship_shapes` (`shapes`), `berth_check` and
+//! `berth_place` (`berths`), `chamber_place` (`cases`), `spot_place` (`spots`). Time, tree and bounds:
+//! `master_branch` (`nodes`), `flow_bounds` (`bounds`), `price_bound` (`prices`), `price_raise` (`raising`),
+//! `near_plan` (`near`), `first_plan` (`singles`), `sweep` (`sweeps`). Searches: `book_core` (`books`),
+//! `search_worker` (`worker`), `solve_workers` (`searches`).
+//!
+//! What a method of a book changes, also through the lock, its contract says, and so where the check rejects
+//! a certificate that no text has. What prices find at a node rows of whole runs show, and that who waits for
+//! the lock is told, and that workers share costs, `program_tests`. A crate with tests is proved twice, and
+//! each program of tests is read whole with all that it reaches, so they stand together in a crate of their
+//! own, which has no code but them. Times are minutes, and lengths are decimetres.
 #![tactic(auto)]
 
 #[cfg(test)]
 mod books;
 #[cfg(test)]
+mod bounds;
+#[cfg(test)]
+mod decks;
+#[cfg(test)]
 mod fixture;
 #[cfg(test)]
+mod locks;
+#[cfg(test)]
+mod near;
+#[cfg(test)]
+mod nodes;
+#[cfg(test)]
+mod prices;
+#[cfg(test)]
+mod raising;
+#[cfg(test)]
 mod searches;
+#[cfg(test)]
+mod singles;
+#[cfg(test)]
+mod sweeps;
+#[cfg(test)]
+mod walk;
 #[cfg(test)]
 mod worker;

@@ -1,5 +1,5 @@
 use Rattle.master_branch.specs.Node.{IsNodeOf}
-use Rattle.tree_tests.proofs.walk.node_at.Given as goal
+use Rattle.search_tests.proofs.walk.node_at.Given as goal
 
 abbrev pub invariant-loop-i : goal.invariant-loop-i
 invariant-loop-i l = IsNodeOf l.instance l.node
