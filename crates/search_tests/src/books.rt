@@ -4,6 +4,7 @@ mod plans;
 mod priced_root;
 
 use crate::fixture::open;
+use crate::worked::two_ships;
 use asking::{Ask, Told, told};
 use book_core::Book;
 use book_rules::SlotState;
@@ -12,7 +13,6 @@ use priced_root::NARROW;
 use std::alloc::Global;
 use std::process::Abort;
 use std::test::Fail;
-use worked_locks::two_ships;
 
 const REFUSED: &[(Ask, Told)] = &[
     (Ask::Take(0), ("Node", 0, 0)),

@@ -2,10 +2,10 @@
 ghost use Rattle.master_branch.specs.Node.{IsNodeOf};
 
 use crate::walk::node_at;
+use crate::worked::{chamber, one_chamber};
 use flow_bounds::{bound, is_missing, probe, throughput};
 use lock_model::{Instance, Ship, Way};
 use master_branch::Node;
-use worked_locks::{chamber, one_chamber};
 
 // What differs from one lock of two equal ships to the next.
 #[derive(Clone, Copy)]
@@ -43,7 +43,7 @@ const TWO_WAYS_AT_ONCE: Lock = Lock {
 };
 
 fn ship(letter: u8, way: Way, handling: u32) -> Ship {
-    let mut ship = worked_locks::ship(letter, way, 0);
+    let mut ship = crate::worked::ship(letter, way, 0);
     ship.handling = handling;
     ship
 }

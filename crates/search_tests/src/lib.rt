@@ -4,7 +4,8 @@
 //! `berth_place` (`berths`), `chamber_place` (`cases`), `spot_place` (`spots`). Time, tree and bounds:
 //! `master_branch` (`nodes`), `flow_bounds` (`bounds`), `price_bound` (`prices`), `price_raise` (`raising`),
 //! `near_plan` (`near`), `first_plan` (`singles`), `sweep` (`sweeps`). Searches: `book_core` (`books`),
-//! `search_worker` (`worker`), `solve_workers` (`searches`).
+//! `search_worker` (`worker`), `solve_workers` (`searches`). Small chambers, ships, instances and decks for them
+//! stand in `worked`.
 //!
 //! What a method of a book changes, also through the lock, its contract says, and so where the check rejects
 //! a certificate that no text has. What prices find at a node rows of whole runs show, and that who waits for
@@ -39,5 +40,7 @@ mod singles;
 mod sweeps;
 #[cfg(test)]
 mod walk;
+#[cfg(test)]
+mod worked;
 #[cfg(test)]
 mod worker;

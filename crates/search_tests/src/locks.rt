@@ -1,6 +1,6 @@
 //! Instances of three ships.
+use crate::worked::{chamber, ship};
 use lock_model::{Chambers, Instance, ShipList, Way};
-use worked_locks::{chamber, ship};
 
 /// Three equal ships before a chamber that takes any two of them, and not all three.
 pub(crate) fn three() -> Option<Instance> {

@@ -1,11 +1,11 @@
 //! Plans near made-up lines.
+use crate::worked::two_ships;
 use lock_model::{Group, Instance, Ships, Spot, Spots, Way};
 use near_plan::{Fitting, Moves, near_plan};
 use no_memory::NoMemory;
 use price_terms::{LooseLine, LooseLines};
 use std::alloc::Global;
 use std::test::Fail;
-use worked_locks::two_ships;
 
 // Says that one ship fits alone, at the left quay, and no two together.
 #[derive(Drop)]

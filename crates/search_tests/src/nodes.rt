@@ -1,9 +1,9 @@
 //! The laws of trees.
 
 use crate::locks::three;
+use crate::worked::two_ships;
 use lock_model::Instance;
 use master_branch::{children_split_plans, node_limit, root};
-use worked_locks::two_ships;
 
 // The most nodes of an instance, whose root's children split its plans.
 fn limit_of(instance: Option<Instance>) -> Option<u128> {

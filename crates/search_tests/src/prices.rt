@@ -1,9 +1,9 @@
 //! Limits of the bound by prices. What nodes reach stands with the rows of dossiers.
+use crate::worked::two_ships;
 use master_branch::root;
 use price_bound::{KeptLines, PricedNode, price_sum};
 use price_terms::{Limits, PriceError, Prices};
 use std::alloc::Global;
-use worked_locks::two_ships;
 
 // What two ships that fit side by side reach together at the root, within limits.
 fn sum_within(alloc: Global, limits: Limits) -> Option<Result<Option<i64>, PriceError>> {

@@ -1,8 +1,8 @@
 //! Steps of ascents, worked out by hand. Which prices are kept as the best ones a contract says.
+use crate::worked::pair;
 use price_raise::{Ascent, Pace, Stands};
 use price_rules::Triple;
 use price_terms::Prices;
-use worked_locks::pair;
 
 /// Groups of least lines: two ships, or one that is named twice.
 type Groups = &'static [(u8, u8)];

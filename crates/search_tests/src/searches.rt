@@ -1,6 +1,7 @@
 //! Whole searches, of the caller alone and of two workers. More of them are whole runs.
 
 use crate::fixture::case_of;
+use crate::worked::two_ships;
 use book_core::{Case, open_book};
 use first_plan::singles_plan;
 use gates::{Gate, LastGate, Point, Stage};
@@ -11,7 +12,6 @@ use std::alloc::Global;
 use std::sync::atomic::AtomicU64;
 use std::sync::atomic::Ordering::SeqCst;
 use std::test::Fail;
-use worked_locks::two_ships;
 
 // Three nodes: the root, its one child, and of that one's children the one that joins the ships, which
 // fit side by side.

@@ -1,15 +1,15 @@
 //! Worked singles plans.
+use crate::worked::ship;
 use first_plan::singles_plan;
 use lock_model::{Chamber, Chambers, Instance, ShipList, Stand, Way};
 use mooring_rules::first_unfit;
-use worked_locks::ship;
 
 // Where two equal chambers stand, and which way the second ship goes, from when on; the first one goes up
 // from minute 0.
 type Lock = (Stand, Stand, Way, u32);
 
 fn chamber(letter: u8, stands: Stand) -> Chamber {
-    let mut chamber = worked_locks::chamber(letter, 240);
+    let mut chamber = crate::worked::chamber(letter, 240);
     chamber.stands = stands;
     chamber
 }

@@ -3,6 +3,7 @@ mod fixture;
 mod hitting;
 
 use crate::fixture::open;
+use crate::worked::two_ships;
 use fixture::{PointGate, one_at_a_time, searched};
 use gates::Point;
 use hitting::has_hit_cut;
@@ -11,7 +12,6 @@ use lock_model::Instance;
 use std::alloc::Global;
 use std::sync::Wait;
 use std::test::Fail;
-use worked_locks::two_ships;
 
 // The root and its child are split at once; the node of both ships in one group, which the worker is
 // given then, is closed by a cut.

@@ -1,11 +1,11 @@
 //! Plans of two ships before one chamber, and the cut of both.
 
 use super::priced_root::NARROW;
+use crate::worked::{BASE, deck_of, pair};
 use deck_cuts::{Cut, Quick, Refutation};
 use lock_model::{Lockage, Lockages, Measures, Moor, Plan, Rank, Ships, Spot, Spots, Way};
 use place_refute::make_cut;
 use std::alloc::Global;
-use worked_locks::{BASE, deck_of, pair};
 
 fn spot(y: u32, rank: Rank) -> Spot {
     Spot {

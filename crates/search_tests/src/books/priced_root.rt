@@ -1,13 +1,13 @@
 //! The root of the narrow lock, which the cut of its two ships and their prices, or a sweep, close.
 ghost use Rattle.master_branch.specs.Node.{IsNodeOf};
 
+use crate::worked::{pair, two_ships};
 use lock_model::Instance;
 use master_branch::{Node, root};
 use price_bound::{KeptLines, PricedNode, show};
 use price_terms::{ChamberCut, Limits, Prices, Shown, Swept};
 use std::alloc::Global;
 use sweep::{SweepAsked, SweepEnd, SweepLimits, SweepOutcome, sweep};
-use worked_locks::{pair, two_ships};
 
 /// The width of a chamber in which two ships don't lie side by side.
 pub(crate) const NARROW: u32 = 232;

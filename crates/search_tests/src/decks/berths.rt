@@ -1,11 +1,11 @@
 //! Decks placed and refuted by berths. Worked berth trees stand with the second checker.
 use super::fixture::are_legal;
+use crate::worked::deck_of;
 use berth_check::check_berth_tree;
 use berth_place::{BerthPlaced, place_by_berths};
 use lock_model::{Deck, Measures};
 use refute_rules::Marks;
 use std::alloc::Global;
-use worked_locks::deck_of;
 
 /// A chamber by length, width and gap along, and ships by length and width.
 type Worked = ((u32, u32, u32), &'static [(u32, u32)]);

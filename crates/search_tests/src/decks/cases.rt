@@ -1,10 +1,10 @@
 //! Decks placed and refuted by cases. What is left out of a cut its contract says, and rows of dossiers show.
 use super::fixture::{TWINS, lie};
+use crate::worked::{BASE, deck_of};
 use chamber_place::{Placed, place};
 use lock_model::Measures;
 use refute_rules::Refutation;
 use std::alloc::Global;
-use worked_locks::{BASE, deck_of};
 
 /// No ship is as long or as wide as this chamber, and none has a gap to keep.
 const SQUARE: Measures = Measures {

@@ -2,9 +2,9 @@
 ghost use Rattle.std.specs.Prelude.{IsTrue};
 ghost use Rattle.lock_model.specs.Placement.{IsLegalPlacement};
 
+use crate::worked::BASE;
 use lock_model::{Deck, Measures, Moor, Rank, Spot, Spots};
 use mooring_rules::judge_spots;
-use worked_locks::BASE;
 
 /// Two base ships don't lie side by side here.
 pub(crate) const NARROW: Measures = Measures { width: 232, ..BASE };

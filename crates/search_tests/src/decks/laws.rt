@@ -5,9 +5,9 @@ ghost use Rattle.std.specs.Prelude.{◌≤◌, IfSome};
 ghost use Rattle.deck_laws.specs.Widen.{IsRoomier};
 
 use super::fixture::{LEFT, Place, QUAY, RIGHT, SIDE_BY_SIDE, TWINS, are_legal, spots_of};
+use crate::worked::{BASE, deck_of};
 use deck_laws::{thin_out, widen};
 use lock_model::{Deck, Measures, Moor, Spots};
-use worked_locks::{BASE, deck_of};
 
 const THREE: &[(u32, u32)] = &[(600, 60), (500, 50), (400, 40)];
 

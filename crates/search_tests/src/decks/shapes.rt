@@ -1,8 +1,8 @@
 //! Reasons that are seen from the shapes of ships, found by hand.
 use super::fixture::{NARROW, TWINS};
+use crate::worked::{BASE, deck_of};
 use lock_model::Measures;
 use ship_shapes::{Quick, find_reason};
-use worked_locks::{BASE, deck_of};
 
 const BARE: Measures = Measures {
     length: 100,

@@ -1,9 +1,9 @@
 //! Decks placed and refuted by spots.
 use super::fixture::{NARROW, SHORT, TWINS, lie};
+use crate::worked::{BASE, deck_of};
 use lock_model::Measures;
 use spot_place::{SpotPlaced, place_by_spots};
 use std::alloc::Global;
-use worked_locks::{BASE, deck_of};
 
 /// Ships by length and width, the turns, the spot tree where they are enough for one, and the answer.
 type Tried = (

@@ -1,6 +1,7 @@
 //! A worker that searches a book alone.
 ghost use Rattle.std.specs.Prelude.{◌≡◌, ◌+◌, length, sum_by, All, IfSome};
 
+use crate::worked::{chamber, one_chamber, ship};
 use book_core::Book;
 use bound_word::{BoundSeat, BoundTable};
 use cut_pool::Pool;
@@ -15,7 +16,6 @@ use std::marker::Brand;
 use std::sync::ledger::{Blank, Ledger};
 use std::sync::{Mutex, Wait};
 use std::test::Fail;
-use worked_locks::{chamber, one_chamber, ship};
 
 /// Two ships that want up at once, and a chamber that serves one at a time.
 pub(crate) fn one_at_a_time() -> Option<Instance> {

@@ -2,7 +2,7 @@
 use lock_model::{Deck, Measures, Size, Sizes};
 
 /// The measures of the base chamber, in decimetres.
-pub const BASE: Measures = Measures {
+pub(crate) const BASE: Measures = Measures {
     length: 2000,
     width: 240,
     end: 10,
@@ -12,7 +12,7 @@ pub const BASE: Measures = Measures {
 
 /// The deck of the first eight of these ships, by length and width in decimetres, without cargo;
 /// None where a limit fails.
-pub fn deck_of(measures: Measures, ships: &[(u32, u32)]) -> Option<Deck> {
+pub(crate) fn deck_of(measures: Measures, ships: &[(u32, u32)]) -> Option<Deck> {
     let mut sizes = Sizes::new();
     for &(length, width) in ships {
         if sizes.as_slice().len() < 8 {

@@ -2,7 +2,7 @@
 use lock_model::{Chamber, Chambers, Closures, Instance, Name, Ship, ShipList, Stand, Way};
 
 /// A name of one letter.
-pub fn named(letter: u8) -> Name {
+fn named(letter: u8) -> Name {
     let mut name = Name::new();
     name.push(letter);
     name
@@ -10,7 +10,7 @@ pub fn named(letter: u8) -> Name {
 
 /// The base chamber, but for its width in decimetres: it stands low, an empty turn takes 15
 /// minutes, up to four ships share a passage, and it is never closed.
-pub fn chamber(letter: u8, width: u32) -> Chamber {
+pub(crate) fn chamber(letter: u8, width: u32) -> Chamber {
     Chamber {
         name: named(letter),
         length: 2000,
@@ -28,7 +28,7 @@ pub fn chamber(letter: u8, width: u32) -> Chamber {
 }
 
 /// The base ship that arrives at this minute: five minutes of handling, and no cargo.
-pub fn ship(letter: u8, way: Way, arrival: u32) -> Ship {
+pub(crate) fn ship(letter: u8, way: Way, arrival: u32) -> Ship {
     Ship {
         name: named(letter),
         way,
@@ -41,7 +41,7 @@ pub fn ship(letter: u8, way: Way, arrival: u32) -> Ship {
 }
 
 /// An instance of one chamber and two ships; None where a limit fails.
-pub fn one_chamber(only: Chamber, first: Ship, second: Ship) -> Option<Instance> {
+pub(crate) fn one_chamber(only: Chamber, first: Ship, second: Ship) -> Option<Instance> {
     let mut chambers = Chambers::new();
     chambers.push(only);
     let mut ships = ShipList::new();
@@ -51,7 +51,7 @@ pub fn one_chamber(only: Chamber, first: Ship, second: Ship) -> Option<Instance>
 }
 
 /// Two base ships that go up from minute 0, and the base chamber but for its width in decimetres.
-pub fn two_ships(width: u32) -> Option<Instance> {
+pub(crate) fn two_ships(width: u32) -> Option<Instance> {
     let (first, second) = (ship(b's', Way::Up, 0), ship(b't', Way::Up, 0));
     one_chamber(chamber(b'c', width), first, second)
 }
