@@ -61,3 +61,26 @@ stack_is_enough() {
   cat examples/evening.lock examples/evening.plan | (ulimit -s 64 && "${run[@]}" judge >/dev/null) &&
     cat examples/evening.lock examples/evening.plan | (ulimit -s 64 && "${run[@]}" play >/dev/null)
 }
+
+# whether a command has four threads at a time, with this input, in one of many short runs
+has_four_threads() {
+  local program threads
+  for _ in {1..100}; do
+    crates/lock_main/out/lock_main "${@:2}" <"$1" >/dev/null &
+    program=$!
+    while threads=$(sed -n 's/^Threads:[[:space:]]*//p' "/proc/$program/status" 2>/dev/null) && [ -n "$threads" ]; do
+      [ "$threads" -lt 4 ] || { wait; return 0; }
+    done
+  done
+  return 1
+}
+
+# what searches has a thread for each of three workers, beside the caller's
+workers_have_threads() {
+  local lock=examples/queue-24.lock open=out/threads.open empty=out/threads.plan search=(--nodes 1000 --workers 3)
+  mkdir -p out && { cat "$lock" && printf 'plan\nend\n'; } >"$empty" || return 1
+  ./glock solve --nodes 1 --keep <"$lock" >"$open" 2>/dev/null
+  has_four_threads "$lock" solve "${search[@]}" || return 1
+  has_four_threads "$open" resume "${search[@]}" || return 1
+  has_four_threads "$empty" replan --from 0 "${search[@]}" && rm "$open" "$empty"
+}

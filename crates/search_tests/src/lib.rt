@@ -4,14 +4,14 @@
 //! `berth_place` (`berths`), `chamber_place` (`cases`), `spot_place` (`spots`). Time, tree and bounds:
 //! `master_branch` (`nodes`), `flow_bounds` (`bounds`), `price_bound` (`prices`), `price_raise` (`raising`),
 //! `near_plan` (`near`), `first_plan` (`singles`), `sweep` (`sweeps`). Searches: `book_core` (`books`),
-//! `search_worker` (`worker`), `solve_workers` (`searches`). Small chambers, ships, instances and decks for them
+//! `search_worker` (`worker`), `solve_workers` (`searches`), and what stands round them: `gates` (`holding`), and
+//! `plan_text` (`plan_texts`), which prints what no command does. Small chambers, ships, instances and decks for them
 //! stand in `worked`.
 //!
 //! What a method of a book changes, also through the lock, its contract says, and so where the check rejects
-//! a certificate that no text has. What prices find at a node rows of whole runs show, and that who waits for
-//! the lock is told, and that workers share costs, `program_tests`. A crate with tests is proved twice, and
-//! each program of tests is read whole with all that it reaches, so they stand together in a crate of their
-//! own, which has no code but them. Times are minutes, and lengths are decimetres.
+//! a certificate that no text has. What prices find at a node rows of whole runs show. A crate with tests is
+//! proved twice, and each program of tests is read whole with all that it reaches, so they stand together in a
+//! crate of their own, which has no code but them. Times are minutes, and lengths are decimetres.
 #![tactic(auto)]
 
 #[cfg(test)]
@@ -23,11 +23,15 @@ mod decks;
 #[cfg(test)]
 mod fixture;
 #[cfg(test)]
+mod holding;
+#[cfg(test)]
 mod locks;
 #[cfg(test)]
 mod near;
 #[cfg(test)]
 mod nodes;
+#[cfg(test)]
+mod plan_texts;
 #[cfg(test)]
 mod prices;
 #[cfg(test)]

@@ -1,5 +1,8 @@
 //! Whole searches, of the caller alone and of two workers. More of them are whole runs.
 
+mod learning;
+mod meeting;
+
 use crate::fixture::case_of;
 use crate::worked::two_ships;
 use book_core::{Case, open_book};

@@ -1,5 +1,5 @@
-//! Gates with one worker, and one that finds cuts for another. That two meet, and what the held one hears, stands in
-//! `runs`.
+//! Gates with one worker, and one that finds cuts for another. That two meet, and what the held one hears, stands
+//! in `searches`.
 
 use gates::{CutGate, Gate, LastGate, MeetGate, OpenGate, Point, Stage};
 use std::thread::join;
