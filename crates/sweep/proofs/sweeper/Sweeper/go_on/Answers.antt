@@ -2,6 +2,7 @@ use Rattle.std.proofs.Common.{IsTrue, refl, sym, subst}
 use Rattle.sweep.specs.Bounds.{cuts_of}
 use Rattle.sweep.proofs.GrownLemmas.{guided_on, sound_same, further_same, further_more}
 use Rattle.sweep.proofs.GoingLemmas.{arc_dropped, arc_late, arc_kept}
+use Rattle.sweep.proofs.JudgeLemmas.{no_value}
 use Rattle.sweep.proofs.sweeper.Sweeper.go_on.Goals as goal
 
 pub returns-then-above-clause-further : goal.returns-then-above-clause-further
@@ -49,3 +50,45 @@ pub returns-clause-led : goal.returns-clause-led
 returns-clause-led c =
     let case = c.args.case.now in
     arc_kept case _ c.args.from.now.label c.args.step.now c.in_ok-label.label (λ g is. c.in_ok-label.ensures (cuts_of case) c.requires.sound.arrive g is) c.in_ok-keep.ensures.met
+
+pub returns-in_err-label-clause-further : goal.returns-in_err-label-clause-further
+returns-in_err-label-clause-further c = no_value _ c.from_residual.result c.from_residual.ensures.0
+
+pub returns-in_err-label-clause-led : goal.returns-in_err-label-clause-led
+returns-in_err-label-clause-led c = no_value _ c.from_residual.result c.from_residual.ensures.0
+
+pub returns-in_err-gains-clause-further : goal.returns-in_err-gains-clause-further
+returns-in_err-gains-clause-further c = no_value _ c.from_residual-in_err-gains.result c.from_residual-in_err-gains.ensures.0
+
+pub returns-in_err-gains-clause-led : goal.returns-in_err-gains-clause-led
+returns-in_err-gains-clause-led c = no_value _ c.from_residual-in_err-gains.result c.from_residual-in_err-gains.ensures.0
+
+pub returns-in_err-less-clause-further : goal.returns-in_err-less-clause-further
+returns-in_err-less-clause-further c = no_value _ c.from_residual-in_err-less.result c.from_residual-in_err-less.ensures.0
+
+pub returns-in_err-less-clause-led : goal.returns-in_err-less-clause-led
+returns-in_err-less-clause-led c = no_value _ c.from_residual-in_err-less.result c.from_residual-in_err-less.ensures.0
+
+pub returns-in_err-above-clause-further : goal.returns-in_err-above-clause-further
+returns-in_err-above-clause-further c = no_value _ c.from_residual-in_err-above.result c.from_residual-in_err-above.ensures.0
+
+pub returns-in_err-above-clause-led : goal.returns-in_err-above-clause-led
+returns-in_err-above-clause-led c = no_value _ c.from_residual-in_err-above.result c.from_residual-in_err-above.ensures.0
+
+pub returns-in_err-late-clause-further : goal.returns-in_err-late-clause-further
+returns-in_err-late-clause-further c = no_value _ c.from_residual-in_err-late.result c.from_residual-in_err-late.ensures.0
+
+pub returns-in_err-late-clause-led : goal.returns-in_err-late-clause-led
+returns-in_err-late-clause-led c = no_value _ c.from_residual-in_err-late.result c.from_residual-in_err-late.ensures.0
+
+pub returns-in_err-split-clause-further : goal.returns-in_err-split-clause-further
+returns-in_err-split-clause-further c = no_value _ c.from_residual-in_err-split.result c.from_residual-in_err-split.ensures.0
+
+pub returns-in_err-split-clause-led : goal.returns-in_err-split-clause-led
+returns-in_err-split-clause-led c = no_value _ c.from_residual-in_err-split.result c.from_residual-in_err-split.ensures.0
+
+pub returns-in_err-keep-clause-further : goal.returns-in_err-keep-clause-further
+returns-in_err-keep-clause-further c = no_value _ c.from_residual-in_err-keep.result c.from_residual-in_err-keep.ensures.0
+
+pub returns-in_err-keep-clause-led : goal.returns-in_err-keep-clause-led
+returns-in_err-keep-clause-led c = no_value _ c.from_residual-in_err-keep.result c.from_residual-in_err-keep.ensures.0

@@ -1,6 +1,7 @@
 use Rattle.std.proofs.Common.{◌<◌, IsTrue, length, length-append, refl, sym, ap, subst, arith}
 use Rattle.sweep_labels.specs.Labels.{label_of}
 use Rattle.sweep.proofs.GoingLemmas.{at_number, at_number_on, bound_treated, led_treated}
+use Rattle.sweep.proofs.JudgeLemmas.{no_value}
 use Rattle.sweep.proofs.sweeper.Sweeper.treat.Goals as goal
 
 pub close-requires-clause-treated : goal.close-requires-clause-treated
@@ -22,3 +23,15 @@ close-requires-2-clause-treated c =
     led_treated case new (label_of from.label) from.number c.args.missed
     (at_number case new.labels.items.items from.number from.label within (at_number_on case old new from.number from.label grown c.requires.within c.requires.label))
     c.requires.known c.requires.missing c.in_ok-go_by_all.ensures.led
+
+pub returns-in_err-above : goal.returns-in_err-above
+returns-in_err-above c = no_value _ c.from_residual.result c.from_residual.ensures.0
+
+pub returns-then-above : goal.returns-then-above
+returns-then-above c = c.close.ensures
+
+pub returns-in_err-late : goal.returns-in_err-late
+returns-in_err-late c = no_value _ c.from_residual-in_err-late.result c.from_residual-in_err-late.ensures.0
+
+pub returns-in_err-go_by_all : goal.returns-in_err-go_by_all
+returns-in_err-go_by_all c = no_value _ c.from_residual-in_err-go_by_all.result c.from_residual-in_err-go_by_all.ensures.0
