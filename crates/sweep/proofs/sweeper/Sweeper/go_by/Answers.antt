@@ -53,3 +53,18 @@ returns-clause-further c =
     let case = c.args.case.now in
     let old = c.args.self.now in
     further_more case old _ _ (further_same case old _ c.requires.sound (guided_on case old.lanes.now _ old.known c.requires.sound.guided c.in_ok-arcs.ensures.same) refl refl) c.in_ok-go_by_arcs.ensures.further
+
+pub room_of-requires : goal.room_of-requires
+room_of-requires c = c.requires.chamber
+
+pub arcs_of-requires-clause-lanes : goal.arcs_of-requires-clause-lanes
+arcs_of-requires-clause-lanes c = c.requires.sound.guided.lanes.own
+
+pub arcs_of-requires-clause-chamber : goal.arcs_of-requires-clause-chamber
+arcs_of-requires-clause-chamber c = c.requires.chamber
+
+pub go_by_arcs-requires-clause-origin : goal.go_by_arcs-requires-clause-origin
+go_by_arcs-requires-clause-origin c = c.requires.origin
+
+pub go_by_arcs-requires-clause-chamber : goal.go_by_arcs-requires-clause-chamber
+go_by_arcs-requires-clause-chamber c = c.requires.chamber

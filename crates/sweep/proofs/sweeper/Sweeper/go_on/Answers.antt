@@ -92,3 +92,18 @@ returns-in_err-keep-clause-further c = no_value _ c.from_residual-in_err-keep.re
 
 pub returns-in_err-keep-clause-led : goal.returns-in_err-keep-clause-led
 returns-in_err-keep-clause-led c = no_value _ c.from_residual-in_err-keep.result c.from_residual-in_err-keep.ensures.0
+
+pub gains_of-requires : goal.gains_of-requires
+gains_of-requires c = c.requires.sound.guided.lanes.own
+
+pub is_late_above-requires-clause-arrive : goal.is_late_above-requires-clause-arrive
+is_late_above-requires-clause-arrive c = c.requires.sound.arrive
+
+pub is_late_above-requires-clause-triples : goal.is_late_above-requires-clause-triples
+is_late_above-requires-clause-triples c = c.missing_triples.ensures
+
+pub is_late_above-requires-clause-gains : goal.is_late_above-requires-clause-gains
+is_late_above-requires-clause-gains c = c.in_ok-gains.ensures.gains
+
+pub keep-requires : goal.keep-requires
+keep-requires c = c.in_ok-split.ensures.further.sound

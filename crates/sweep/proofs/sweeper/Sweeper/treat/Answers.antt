@@ -1,6 +1,7 @@
 use Rattle.std.proofs.Common.{◌<◌, IsTrue, length, length-append, refl, sym, ap, subst, arith}
 use Rattle.sweep_labels.specs.Labels.{label_of}
-use Rattle.sweep.proofs.GoingLemmas.{at_number, at_number_on, bound_treated, led_treated}
+use Rattle.sweep.proofs.GoingLemmas.{at_number, at_number_on, bound_treated, late_treated, led_treated}
+use Rattle.sweep.proofs.GrownLemmas.{further_more}
 use Rattle.sweep.proofs.JudgeLemmas.{no_value}
 use Rattle.sweep.proofs.sweeper.Sweeper.treat.Goals as goal
 
@@ -35,3 +36,20 @@ returns-in_err-late c = no_value _ c.from_residual-in_err-late.result c.from_res
 
 pub returns-in_err-go_by_all : goal.returns-in_err-go_by_all
 returns-in_err-go_by_all c = no_value _ c.from_residual-in_err-go_by_all.result c.from_residual-in_err-go_by_all.ensures.0
+
+pub close-requires-then-late-clause-treated : goal.close-requires-then-late-clause-treated
+close-requires-then-late-clause-treated c =
+    let case = c.args.case.now in
+    let from = c.args.from.now in
+    let made = c.args.self.now.made in
+    let over : IsTrue c.in_ok-late.late = subst IsTrue (sym c.if-late.true) refl in
+    late_treated case made from.label from.number (at_number case made.labels.items.items from.number from.label c.requires.within c.requires.label) (c.in_ok-late.ensures over)
+
+pub returns-then-late : goal.returns-then-late
+returns-then-late c = c.close-then-late.ensures
+
+pub close-requires-2-clause-sound : goal.close-requires-2-clause-sound
+close-requires-2-clause-sound c = c.in_ok-go_by_all.ensures.further.sound
+
+pub returns : goal.returns
+returns c = further_more c.args.case.now _ _ _ c.in_ok-go_by_all.ensures.further c.close-2.ensures
