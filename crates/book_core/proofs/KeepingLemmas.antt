@@ -1,5 +1,5 @@
 -- What is shown of a slot changes, and nothing else of the slots; the entries of costs that were shown.
-use Rattle.std.proofs.Common.{◌≡◌, ℕ, zero, suc, ◌+◌, ◌<◌, List, [], ◌∷◌, ◌++◌, length, refl, sym, ap, ◌∙◌, subst, arith, Bool, false, cond, count_by, slice_index_or, slice_set, inl, inr, Some, None, Ok, Err, IfOk, IfErr}
+use Rattle.std.proofs.Common.{◌≡◌, ℕ, zero, suc, ◌+◌, ◌*◌, ◌<◌, ◌≤◌, List, [], ◌∷◌, ◌++◌, length, length-append, vec_len, vec_capacity, refl, sym, ap, ◌∙◌, subst, arith, Bool, false, cond, count_by, slice_index_or, slice_set, inl, inr, Some, None, Ok, Err, IfOk, IfErr}
 use Rattle.std.specs.Result.{IsErr}
 use Rattle.std.specs.declared.result.Result.{Result}
 use Rattle.std.proofs.lemmas.Bool.{false≢true}
@@ -20,7 +20,7 @@ use Rattle.book_core.specs.declared.stored_slot.StoredSlot.{StoredSlot}
 use Rattle.book_core.specs.declared.waiting.Waiting.{Waiting}
 use Rattle.book_core.specs.Changes.{slot_in}
 use Rattle.book_core.specs.Keeps.{AreTables, CountsLows}
-use Rattle.book_core.specs.Seen.{seen}
+use Rattle.book_core.specs.Seen.{seen, IsKept}
 use Rattle.book_core.specs.Stored.{node_after, slot_with, slots_after, slots_of}
 use Rattle.book_core.specs.Tables.{state_in}
 use Rattle.book_core.proofs.HeldLemmas.{KeepsNodes}
@@ -139,3 +139,21 @@ module _ (a : Inside) (b : Book) (same : seen a ≡ b) (id : ℕ) (known : id < 
   -- the book that the new fields show
   pub low-is : (history : List Entry) → history ≡ a.history.items ++ entry.ShowLow id low ∷ [] → record (seen a) { slots = new_slots; history = history } ≡ low_shown b id low
   low-is history more = (λ i. record (seen a) { slots = slots-shown i; history = more i }) ∙ ap (λ u. low_shown u id low) same
+
+-- where a sound book has one entry more, there is room for it
+pub one-fits : (a : Inside) → IsKept a → (b : Book) → seen a ≡ b → (e : Entry) (left : ℕ) → count_by is_show_low (e ∷ []) ≡ 0
+    → length (b.history ++ e ∷ []) + left ≤ 3 * b.case.nodes + 32 + length b.cuts + length b.plans + length b.prices + count_by is_show_low (b.history ++ e ∷ [])
+    → vec_len a.history < vec_capacity a.history
+one-fits a kept b same e left plain room =
+    let own : length (a.history.items ++ e ∷ []) + left ≤ 3 * a.case.nodes + 32 + length (seen a).cuts + length (seen a).plans + length (seen a).prices + count_by is_show_low (a.history.items ++ e ∷ []) =
+    subst (λ (u : Book). length (u.history ++ e ∷ []) + left ≤ 3 * u.case.nodes + 32 + length u.cuts + length u.plans + length u.prices + count_by is_show_low (u.history ++ e ∷ [])) (sym same) room in
+    omega (
+      arith,
+      own,
+      plain,
+      length-append a.history.items (e ∷ []),
+      one-added a.history.items e (a.history.items ++ e ∷ []) refl,
+      kept.room.enough,
+      kept.lows.count,
+      a.history.ok.0,
+    )

@@ -6,7 +6,7 @@ use Rattle.book_core.specs.Changes.{finished}
 use Rattle.book_core.specs.Hands.{ids_of}
 use Rattle.book_core.specs.Keeps.{IsSound}
 use Rattle.book_core.specs.Seen.{seen}
-use Rattle.book_core.proofs.KeepingLemmas.{lows-kept}
+use Rattle.book_core.proofs.KeepingLemmas.{lows-kept, one-fits}
 use Rattle.book_core.proofs.HandOverLemmas.{tables-ended}
 use Rattle.book_core.proofs.book.Book.end.Goals as goal
 
@@ -27,3 +27,11 @@ invariant_of-self c =
       lows = lows-kept a.history.items a.shown_lows (entry.Release c.args.worker) c.push_reserved.new.self.items old.lows refl c.push_reserved.ensures.items;
       room = record { enough = omega (arith, old.room.enough, c.push_reserved.ensures.capacity) };
     }
+
+pub push_reserved-requires : goal.push_reserved-requires
+push_reserved-requires c =
+    one-fits c.self.inside c.self.invariant c.args.self.now c.self.view_is (entry.Release c.args.worker) _ refl c.requires.sound.parts.room.room
+
+pub returns : goal.returns
+returns c =
+    (λ i. record (seen c.self.inside) { ended = slice_set c.self.inside.ended c.args.worker true; history = c.push_reserved.ensures.items i }) ∙ ap (λ u. finished u c.args.worker) c.self.view_is

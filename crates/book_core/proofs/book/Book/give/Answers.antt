@@ -2,6 +2,7 @@ use Rattle.std.proofs.Common.{length, sym, ap, ◌∙◌, subst, arith, slice_se
 use Rattle.book_rules.specs.declared.book.Entry.TheVariants as entry
 use Rattle.book_rules.specs.Book.{Case, first_slot, is_held_by}
 use Rattle.book_rules.specs.declared.book.SlotState.TheVariants as slot
+use Rattle.flow_bounds.specs.Roster.{IsRosterOf}
 use Rattle.book_core.specs.Stored.{slots_of}
 use Rattle.book_core.specs.Changes.{IsNextFree, leave_back}
 use Rattle.book_core.specs.Keeps.{IsSound, AreTables}
@@ -10,7 +11,7 @@ use Rattle.std.specs.declared.option.Option.{Option}
 use Rattle.book_core.specs.declared.hand.Hand.{Hand}
 use Rattle.book_core.specs.Hands.{ids_of, IsHand, IsNodeIn}
 use Rattle.book_core.specs.Tables.{state_in}
-use Rattle.book_core.proofs.KeepingLemmas.{lows-kept}
+use Rattle.book_core.proofs.KeepingLemmas.{lows-kept, one-fits}
 use Rattle.book_core.proofs.HeldLemmas.{ids-set, changed-nodes, node-kept, nodes-set, nodes-kept}
 use Rattle.book_core.proofs.SettleLemmas.{restated, slots-known, state-is, restated-changes}
 use Rattle.book_core.proofs.PathLemmas.{path-kept, path-in, path-out, last-in, tree-of, tree-in}
@@ -90,3 +91,11 @@ invariant_of-self c =
       lows = lows-kept a.history.items a.shown_lows (entry.Take c.args.worker) c.push_reserved.new.self.items old.lows refl c.push_reserved.ensures.items;
       room = record { enough = omega (arith, old.room.enough, c.push_reserved.ensures.capacity) };
     }
+
+pub lead_to-requires-clause-roster : goal.lead_to-requires-clause-roster
+lead_to-requires-clause-roster c =
+    subst (λ I. IsRosterOf I c.self.inside.roster) (sym (ap (λ (k : Case). k.instance) c.case.view_is)) c.self.invariant.roster_is
+
+pub push_reserved-requires : goal.push_reserved-requires
+push_reserved-requires c =
+    one-fits c.self.inside c.self.invariant c.args.self.now c.self.view_is (entry.Take c.args.worker) _ refl c.requires.sound.parts.room.room

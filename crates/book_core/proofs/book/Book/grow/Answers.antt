@@ -3,6 +3,7 @@ use Rattle.std.specs.Prelude.{IfSome}
 use Rattle.book_rules.specs.declared.book.Entry.TheVariants as entry
 use Rattle.book_rules.specs.declared.book.SlotState.TheVariants as slot
 use Rattle.book_rules.specs.Book.{Book, Case, slot_at, is_held}
+use Rattle.flow_bounds.specs.Roster.{IsRosterOf}
 use Rattle.book_core.specs.Changes.{let_go}
 use Rattle.book_core.specs.Growing.{stored_children}
 use Rattle.book_core.specs.Hands.{ids_of, held_at, bounds_at, IsBounding, AreNodes}
@@ -10,8 +11,8 @@ use Rattle.book_core.specs.Keeps.{IsSound, AreTables}
 use Rattle.book_core.specs.Path.{IsPath}
 use Rattle.book_core.specs.Seen.{seen}
 use Rattle.book_core.specs.Stored.{slots_of}
-use Rattle.book_core.proofs.KeepingLemmas.{lows-kept, no_value, if_refused}
-use Rattle.book_core.proofs.BoundingLemmas.{bounding, tables-filled, hands-filled, bounds-here, hands-left}
+use Rattle.book_core.proofs.KeepingLemmas.{lows-kept, one-fits, no_value, if_refused}
+use Rattle.book_core.proofs.BoundingLemmas.{holder-few, bounding, tables-filled, hands-filled, bounds-here, hands-left}
 use Rattle.book_core.proofs.HeldLemmas.{ids-set}
 use Rattle.book_core.proofs.KeptLemmas.{length-slots}
 use Rattle.book_core.proofs.SettleLemmas.{restated}
@@ -137,3 +138,39 @@ invariant_of-self-2 c =
       lows = lows-kept a.history.items a.shown_lows (entry.Split id) c.push_reserved-2.new.self.items old.lows refl c.push_reserved-2.ensures.items;
       room = record { enough = omega (arith, old.room.enough, c.push_reserved-2.ensures.capacity) };
     }
+
+pub fill_hand-requires-clause-worker : goal.fill_hand-requires-clause-worker
+fill_hand-requires-clause-worker c =
+    let few = holder-few c.self.inside c.self.invariant c.args.self.now c.self.view_is c.args.worker c.args.id c.requires.held in
+    omega (arith, few)
+
+pub fill_hand-requires-clause-roster : goal.fill_hand-requires-clause-roster
+fill_hand-requires-clause-roster c =
+    subst (λ I. IsRosterOf I c.self.inside.roster) (sym (ap (λ (k : Case). k.instance) c.case.view_is)) c.self.invariant.roster_is
+
+pub bounds-self-inside-worker : goal.bounds-self-inside-worker
+bounds-self-inside-worker c = holder-few c.self.inside c.self.invariant c.args.self.now c.self.view_is c.args.worker c.args.id c.requires.held
+
+pub bounds-self-inside-worker-2 : goal.bounds-self-inside-worker-2
+bounds-self-inside-worker-2 c = holder-few c.self.inside c.self.invariant c.args.self.now c.self.view_is c.args.worker c.args.id c.requires.held
+
+pub push_held-requires-clause-worker : goal.push_held-requires-clause-worker
+push_held-requires-clause-worker c =
+    let few = holder-few c.self.inside c.self.invariant c.args.self.now c.self.view_is c.args.worker c.args.id c.requires.held in
+    omega (arith, few)
+
+pub push_reserved-requires : goal.push_reserved-requires
+push_reserved-requires c = c.in_ok-make_space.ensures.one
+
+pub push_reserved-requires-2 : goal.push_reserved-requires-2
+push_reserved-requires-2 c =
+    one-fits c.self.inside c.self.invariant c.args.self.now c.self.view_is (entry.Split c.args.id) _ refl c.requires.sound.parts.room.room
+
+pub push_held-requires-clause-room : goal.push_held-requires-clause-room
+push_held-requires-clause-room c =
+    let a = c.self.inside in
+    let b = c.args.self.now in
+    let K_is = ap (λ (k : Case). k.instance) c.case.view_is in
+    let here = bounds-here a c.self.invariant b c.self.view_is c.args.worker c.args.id c.requires.held c.case.inside.instance K_is c.fill_hand.new.hands c.fill_hand.ensures in
+    let same = ap length (here None ∙ sym (c.bounds_in-count.ensures.bounds ∙ here c.index-self-worker.result)) in
+    omega (arith, same, c.in_ok-make_space.ensures.room)
