@@ -141,16 +141,17 @@ module _ (a : Inside) (b : Book) (same : seen a ≡ b) (id : ℕ) (known : id < 
   low-is history more = (λ i. record (seen a) { slots = slots-shown i; history = more i }) ∙ ap (λ u. low_shown u id low) same
 
 -- where a sound book has one entry more, there is room for it
-pub one-fits : (a : Inside) → IsKept a → (b : Book) → seen a ≡ b → (e : Entry) (left : ℕ) → count_by is_show_low (e ∷ []) ≡ 0
+pub one-fits : (a : Inside) → IsKept a → (b : Book) → seen a ≡ b → (e : Entry) (left : ℕ) → is_show_low e ≡ false
     → length (b.history ++ e ∷ []) + left ≤ 3 * b.case.nodes + 32 + length b.cuts + length b.plans + length b.prices + count_by is_show_low (b.history ++ e ∷ [])
     → vec_len a.history < vec_capacity a.history
-one-fits a kept b same e left plain room =
+one-fits a kept b same e left other room =
+    let none : count_by is_show_low (e ∷ []) ≡ 0 = count_by_more_no is_show_low (e ∷ []) 0 e (omega arith) other in
     let own : length (a.history.items ++ e ∷ []) + left ≤ 3 * a.case.nodes + 32 + length (seen a).cuts + length (seen a).plans + length (seen a).prices + count_by is_show_low (a.history.items ++ e ∷ []) =
     subst (λ (u : Book). length (u.history ++ e ∷ []) + left ≤ 3 * u.case.nodes + 32 + length u.cuts + length u.plans + length u.prices + count_by is_show_low (u.history ++ e ∷ [])) (sym same) room in
     omega (
       arith,
       own,
-      plain,
+      none,
       length-append a.history.items (e ∷ []),
       one-added a.history.items e (a.history.items ++ e ∷ []) refl,
       kept.room.enough,

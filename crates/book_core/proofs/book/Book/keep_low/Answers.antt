@@ -1,12 +1,13 @@
-use Rattle.std.proofs.Common.{◌∷◌, ◌++◌, [], length, count_by, sym, ap, ◌∙◌, subst, arith}
+use Rattle.std.proofs.Common.{◌∷◌, ◌++◌, [], length, count_by, refl, sym, ap, ◌∙◌, subst, arith}
 use Rattle.book_rules.specs.declared.book.Entry.TheVariants as entry
 use Rattle.book_rules.specs.Book.{Book}
 use Rattle.book_rules.specs.History.{is_show_low}
 use Rattle.book_core.specs.Hands.{ids_of}
-use Rattle.book_core.specs.Keeps.{IsSound}
+use Rattle.book_core.specs.Keeps.{IsSound, CountsLows}
+use Rattle.book_core.specs.Seen.{seen}
 use Rattle.book_core.specs.Stored.{slots_of}
 use Rattle.book_core.proofs.HeldLemmas.{nodes-kept}
-use Rattle.book_core.proofs.KeepingLemmas.{lows-more, new_slots, slots-rest, nodes-rest, tables-rest, low-is}
+use Rattle.book_core.proofs.KeepingLemmas.{no_value, if_refused, lows-more, new_slots, slots-rest, nodes-rest, tables-rest, low-is}
 use Rattle.book_core.proofs.PathLemmas.{path-kept}
 use Rattle.book_core.proofs.SettleLemmas.{slots-known}
 use Rattle.book_core.proofs.book.Book.keep_low.Goals as goal
@@ -57,3 +58,34 @@ invariant_of-self-2 c =
         );
       };
     }
+
+pub returns-in_default-clause-none : goal.returns-in_default-clause-none
+returns-in_default-clause-none c = refl
+
+pub returns-in_err-needed-clause-some : goal.returns-in_err-needed-clause-some
+returns-in_err-needed-clause-some c = no_value _ c.from_residual.result c.from_residual.ensures.0
+
+pub returns-in_err-needed-clause-none : goal.returns-in_err-needed-clause-none
+returns-in_err-needed-clause-none c = if_refused c.from_residual.result refl
+
+pub invariant_of-self : goal.invariant_of-self
+invariant_of-self c =
+    let a = c.self.inside in
+    let old = c.self.invariant in
+    let h = c.widen.ensures.history in
+    record {
+      sound = subst IsSound (λ i. record (seen a) { history = sym h i }) old.sound;
+      tables = old.tables;
+      nodes = old.nodes;
+      path = old.path;
+      roster_is = old.roster_is;
+      costs = record { best_is = old.costs.best_is; opening_is = old.costs.opening_is; throughput_is = old.costs.throughput_is };
+      lows = subst (λ es. CountsLows es a.shown_lows) (sym h) old.lows;
+      room = record { enough = omega (arith, old.room.enough, c.widen.ensures.wider) };
+    }
+
+pub returns-in_err-widen-clause-some : goal.returns-in_err-widen-clause-some
+returns-in_err-widen-clause-some c = no_value _ c.from_residual-in_err-widen.result c.from_residual-in_err-widen.ensures.0
+
+pub returns-in_err-widen-clause-none : goal.returns-in_err-widen-clause-none
+returns-in_err-widen-clause-none c = if_refused c.from_residual-in_err-widen.result ((λ i. record (seen c.self.inside) { history = c.widen.ensures.history i }) ∙ c.self.view_is)

@@ -1,10 +1,11 @@
-use Rattle.std.proofs.Common.{sym, ap, ◌∙◌, subst}
+use Rattle.std.proofs.Common.{sym, ap, ◌∙◌, subst, arith}
 use Rattle.std.specs.Prelude.{IfSome}
 use Rattle.lock_rules.specs.Bound.{least_number}
 use Rattle.book_rules.specs.Book.{Case}
+use Rattle.flow_bounds.specs.Roster.{IsRosterOf}
 use Rattle.book_core.specs.Hands.{held_at, IsBounding}
 use Rattle.book_core.proofs.HandLemmas.{state-known, held-open}
-use Rattle.book_core.proofs.BoundingLemmas.{least-below, bounding, tables-filled, hands-filled, bounds-here}
+use Rattle.book_core.proofs.BoundingLemmas.{least-below, holder-few, bounding, tables-filled, hands-filled, bounds-here}
 use Rattle.book_core.proofs.book.Book.next_probe.Goals as goal
 
 pub fill_hand-requires-clause-hand : goal.fill_hand-requires-clause-hand
@@ -44,3 +45,18 @@ returns-clause-value c =
     c.least_in.ensures
     ∙ ap least_number (bounds-here a c.self.invariant b c.self.view_is w c.args.id held c.case.inside.instance K_is c.fill_hand.new.hands c.fill_hand.ensures c.index-self-worker.result)
     ∙ least-below b c.keeps.ensures c.args.id (state-known b.slots c.args.id (λ e. held-open w (sym held ∙ e))) c.requires.lacks
+
+pub fill_hand-requires-clause-worker : goal.fill_hand-requires-clause-worker
+fill_hand-requires-clause-worker c =
+    let few = holder-few c.self.inside c.self.invariant c.args.self.now c.self.view_is c.in-Held.worker c.args.id (sym c.state_of.ensures.state ∙ c.in-Held.is) in
+    omega (arith, few)
+
+pub fill_hand-requires-clause-roster : goal.fill_hand-requires-clause-roster
+fill_hand-requires-clause-roster c =
+    subst (λ I. IsRosterOf I c.self.inside.roster) (sym (ap (λ (k : Case). k.instance) c.case.view_is)) c.self.invariant.roster_is
+
+pub bounds-self-inside-worker : goal.bounds-self-inside-worker
+bounds-self-inside-worker c = holder-few c.self.inside c.self.invariant c.args.self.now c.self.view_is c.in-Held.worker c.args.id (sym c.state_of.ensures.state ∙ c.in-Held.is)
+
+pub returns-clause-same : goal.returns-clause-same
+returns-clause-same c = c.self.view_is

@@ -3,7 +3,7 @@ use Rattle.book_core.specs.Keeps.{IsSound, AreTables}
 use Rattle.book_core.specs.Stored.{slots_of}
 use Rattle.book_core.specs.Changes.{let_go}
 use Rattle.book_core.specs.Hands.{ids_of, AreNodes}
-use Rattle.book_core.proofs.KeepingLemmas.{lows-kept}
+use Rattle.book_core.proofs.KeepingLemmas.{lows-kept, one-fits}
 use Rattle.book_core.proofs.HeldLemmas.{ids-let_go, changed-nodes, nodes-let_go, nodes-kept}
 use Rattle.book_core.proofs.PathLemmas.{path-kept}
 use Rattle.book_core.proofs.SettleLemmas.{restated, restated-is, restated-changes, state-is, settled-known, holder-known, settled-tables}
@@ -48,3 +48,6 @@ invariant_of-self c =
       lows = lows-kept a.history.items a.shown_lows c.args.entry c.push_reserved.new.self.items old.lows c.requires.other c.push_reserved.ensures.items;
       room = record { enough = omega (arith, old.room.enough, c.push_reserved.ensures.capacity) };
     }
+
+pub push_reserved-requires : goal.push_reserved-requires
+push_reserved-requires c = one-fits c.self.inside c.self.invariant c.args.self.now c.self.view_is c.args.entry _ c.requires.other c.requires.sound.parts.room.room
