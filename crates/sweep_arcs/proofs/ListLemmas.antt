@@ -1,6 +1,9 @@
 -- Arcs of groups, put to lists, and those of a list that are asked for.
-use Rattle.std.proofs.Common.{Ordering, Less, Equal, Greater, ◌≡◌, ◌≢◌, ℕ, ℤ, pos, ◌+ℤ◌, zero, suc, ◌+◌, ◌-◌, ◌*◌, ◌<◌, ◌≤◌, ◌≤ℤ◌, ◌<ℤ◌, Bool, true, false, IsTrue, ◌↔◌, ◌⊎◌, inl, inr, Some, None, List, [], ◌∷◌, ◌++◌, length, All, Contains, sum_by, refl, sym, ap, ◌∙◌, subst, arith, slice_index_or}
+use Rattle.std.proofs.Common.{Ordering, Less, Equal, Greater, ◌≡◌, ◌≢◌, ℕ, ℤ, pos, ◌+ℤ◌, zero, suc, ◌+◌, ◌-◌, ◌*◌, ◌<◌, ◌≤◌, ◌≤ℤ◌, ◌<ℤ◌, Bool, true, false, IsTrue, ◌↔◌, ◌⊎◌, inl, inr, Some, None, Ok, Err, IfOk, List, [], ◌∷◌, ◌++◌, length, All, Contains, sum_by, refl, sym, ap, ◌∙◌, subst, arith, slice_index_or}
 use Rattle.std.specs.declared.option.Option.{Option}
+use Rattle.std.specs.declared.result.Result.{Result}
+use Rattle.std.specs.Result.{IsErr}
+use Rattle.std.proofs.lemmas.Bool.{false≢true}
 use Rattle.std.proofs.Math.Seq.{get_or-append_seam}
 use Rattle.std.proofs.lemmas.Int.{ints, by_lt_z}
 use Rattle.std.proofs.lemmas.Bool.Decides.{eqb_tells, leb_tells}
@@ -43,6 +46,11 @@ use Rattle.sweep_arcs.specs.Ways.{IsIdleGroup, IsReached, IsWayOf, IsArcWorth, I
 
 clash : {X : Type 0} → true ≡ false → X
 clash e = cc
+
+-- nothing is told of a value where there is an error
+pub no_value : {T E : Type 0} (P : T → Type 0) (r : Result T E) → IsErr r → IfOk r P
+no_value P (Ok x) err = absurd (false≢true err)
+no_value P (Err e) err = tt
 
 earlier : (i j : ℕ) → j ≢ i → j < i + 1 → j < i
 earlier i j other less = elim (leb_tells (suc j) i) [ inl y ↦ y.1 | inr q ↦ absurd (other (omega (arith, less, q.1))) ]
