@@ -1,14 +1,14 @@
 //! What is wrong with an instance text, and on which line.
 
 /// The first defect of an instance text: its line, counted from 1, and its kind.
-#[derive(Clone, Copy, PartialEq, Eq)]
+#[derive(Clone, Copy)]
 pub struct Bad {
     pub line: u64,
     pub kind: Kind,
 }
 
 /// The kinds of defect, numbered from 1 in this order.
-#[derive(Clone, Copy, PartialEq, Eq)]
+#[derive(Clone, Copy)]
 pub enum Kind {
     /// The bytes are not UTF-8.
     NotUtf8 = 1,

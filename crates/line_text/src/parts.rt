@@ -3,7 +3,7 @@ ghost use Rattle.std.specs.Prelude.{◌≡◌, ◌<◌, ◌≤◌, [], ◌∷◌
 ghost use Rattle.line_text.specs.Parts.{separates, parts_of, parts_left, room_left, now_left, rest_left};
 
 /// Where bytes are cut.
-#[derive(Clone, Copy, PartialEq, Eq)]
+#[derive(Clone, Copy)]
 pub enum Separator {
     /// Into lines, at each line feed.
     LineFeed,

@@ -1,7 +1,7 @@
 //! How far a text has come.
 
 /// Whether the text goes on after a line.
-#[derive(Clone, Copy, PartialEq, Eq)]
+#[derive(Clone, Copy)]
 pub enum Progress {
     More,
     /// The line was `end`.
