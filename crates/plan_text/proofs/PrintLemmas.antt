@@ -1,7 +1,7 @@
 -- Lines as they are appended, word by word.
-use Rattle.std.proofs.Common.{◌≡◌, ℕ, List, [], ◌∷◌, ◌++◌, codes, ap, sym, ◌∙◌}
+use Rattle.std.proofs.Common.{◌≡◌, ℕ, ◌+◌, ◌<◌, List, [], ◌∷◌, ◌++◌, length, take, get_or, codes, ap, sym, ◌∙◌}
 use Rattle.std.specs.List.{flat_map}
-use Rattle.std.proofs.lemmas.List.{append_assoc}
+use Rattle.std.proofs.lemmas.List.{append_assoc, append-nil, take_more}
 use Rattle.std.proofs.lemmas.Grind.{flat_map-append}
 use Rattle.lock_model.specs.declared.instance.Instance.{Instance}
 use Rattle.lock_model.specs.declared.placement.Spot.{Spot}
@@ -31,6 +31,16 @@ lockage_is I l o first last ships spots same same' is more =
     ∙ append_assoc o (line (head_words I l)) (flat_map line (berths_of I ships ships spots))
     ∙ ap (λ ss. o ++ (line (head_words I l) ++ flat_map line (berths_of I ss ss spots))) same
     ∙ ap (λ ps. o ++ (line (head_words I l) ++ flat_map line (berths_of I l.ships l.ships ps))) same'
+
+-- the lines of one lockage more
+pub lines_more : (lines : Lockage → List (List (List ℕ))) (o : List ℕ) (ls : List Lockage) (i : ℕ) (d : Lockage) → i < length ls
+    → (o ++ flat_map line (flat_map lines (take i ls))) ++ flat_map line (lines (get_or ls i d)) ≡ o ++ flat_map line (flat_map lines (take (i + 1) ls))
+lines_more lines o ls i d h =
+    let done = flat_map lines (take i ls) in
+    let own = lines (get_or ls i d) in
+    let more : flat_map lines (take (i + 1) ls) ≡ done ++ own =
+    ap (flat_map lines) (take_more ls i d h) ∙ flat_map-append lines (take i ls) (get_or ls i d ∷ []) ∙ ap (λ xs. done ++ xs) (append-nil own) in
+    append_assoc o (flat_map line done) (flat_map line own) ∙ ap (λ xs. o ++ xs) (sym (ap (flat_map line) more ∙ flat_map-append line done own))
 
 -- the whole text part by part
 pub plan_text_is : (I : Instance) (ls : List Lockage) → flat_map line (plan_lines I ls) ≡ codes "plan\n" ++ flat_map line (flat_map (lockage_lines I) ls) ++ codes "end\n"
