@@ -175,8 +175,8 @@ module _ (I : Instance) (P : Plan) where
       ap (λ (hs : List ℕ).
       card_head clock c.name (passage_in I (day_of I P) t.number t.lockage l) ++ card_title I l t.number (drawn (deck_scale I.chambers c) c.width) c.name
       ++ (waters (deck_scale I.chambers c) c ++ hs ++ ties (deck_scale I.chambers c) I l ++ writing (deck_scale I.chambers c) I l
-      ++ feet c (drawn (deck_scale I.chambers c) c.length) (height_of (drawn (deck_scale I.chambers c) c.width) - 14) ++ filled (codes "</svg>\n") [])
-      ++ filled (codes "<table>") [] ++ list_rows I l ++ filled (codes "</table></article>\n") [])
+      ++ feet c (drawn (deck_scale I.chambers c) c.length) (height_of (drawn (deck_scale I.chambers c) c.width) - 14))
+      ++ filled (codes "</svg>\n<table>") [] ++ list_rows I l ++ filled (codes "</table></article>\n") [])
       (hulls-written l)
 
   -- ---- lanes, rows and cards

@@ -99,14 +99,14 @@ module _ (I : Instance) (P : Plan) (clock : Clock) where
   abbrev pub deck_with : Lockage → Chamber → List DeckShip → List ℕ
   deck_with l c ships =
       waters (deck_scale I.chambers c) c ++ flat_map (deck_ship_text l) ships ++ ties (deck_scale I.chambers c) I l ++ writing (deck_scale I.chambers c) I l
-      ++ feet c (drawn (deck_scale I.chambers c) c.length) (height_of (drawn (deck_scale I.chambers c) c.width) - 14) ++ filled (codes "</svg>\n") []
+      ++ feet c (drawn (deck_scale I.chambers c) c.length) (height_of (drawn (deck_scale I.chambers c) c.width) - 14)
 
   -- its card
   abbrev pub card_with : ℕ → ℕ → Lockage → Chamber → List DeckShip → List ℕ
   card_with number place l c ships =
       card_head clock c.name (passage_in I (day_of I P) number place l) ++ card_title I l number (drawn (deck_scale I.chambers c) c.width) c.name
       ++ deck_with l c ships
-      ++ filled (codes "<table>") [] ++ list_rows I l ++ filled (codes "</table></article>\n") []
+      ++ filled (codes "</svg>\n<table>") [] ++ list_rows I l ++ filled (codes "</table></article>\n") []
 
   abbrev pub deck_text : Deck → List ℕ
   deck_text d = card_with d.number d.lockage (lockage_at P d.lockage) (chamber_at I (lockage_at P d.lockage).chamber) d.ships

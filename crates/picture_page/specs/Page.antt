@@ -58,7 +58,7 @@ present_style (Some minute) = filled PRESENT_STYLE.now []
 unfoldable pub page_head : Option ℕ → Known → ℕ → List ℕ
 page_head present known cost =
     filled (codes "<!DOCTYPE html>\n<html lang=\"en\">\n<head>\n<meta charset=\"utf-8\">\n<meta name=\"viewport\" content=\"width=device-width,initial-scale=1\">\n<title>glock: ") []
-    ++ verdict known cost ++ filled (codes "</title>\n<style>") [] ++ filled STYLE.now [] ++ present_style present
+    ++ verdict known cost ++ filled STYLE.now [] ++ present_style present
     ++ filled (codes "</style>\n</head>\n<body>\n<main>\n") []
 
 -- the least and the greatest of some events
@@ -76,7 +76,8 @@ span_word (Day offset) = codes "from "
 
 -- from the first event to the last
 unfoldable pub event_span : Clock → List ℕ → List ℕ
-event_span clock events = span_word clock ++ time_text clock (least_of events) ++ codes " to " ++ time_text clock (greatest_of events)
+event_span clock events =
+    filled (span_word clock) [] ++ time_text clock (least_of events) ++ filled (codes " to ") [] ++ time_text clock (greatest_of events)
 
 -- what is known of the plan, and what that means
 unfoldable pub heading : Known → ℕ → List ℕ

@@ -20,12 +20,12 @@ use Rattle.picture_page.specs.declared.stretch.Stretch.{Stretch}
 
 -- a ship's way, name and cargo
 unfoldable pub row_name : Ship → List ℕ
-row_name s = filled (codes "<tr><th scope=\"row\">") [] ++ arrow s.way ++ s.name ++ cargo_mark s.cargo ++ filled (codes "</th>") []
+row_name s = filled (codes "<tr><th scope=\"row\">") [] ++ arrow s.way ++ s.name ++ cargo_mark s.cargo
 
 -- when it arrives, and how long it waits up to a minute
 unfoldable pub row_wait : Clock → Ship → ℕ → List ℕ
 row_wait clock s start =
-    filled (codes "<td class=\"v\">") [] ++ time_text clock s.arrival ++ filled (codes "</td><td class=\"v\">") [] ++ decimal (start - s.arrival)
+    filled (codes "</th><td class=\"v\">") [] ++ time_text clock s.arrival ++ filled (codes "</td><td class=\"v\">%") ((start - s.arrival) ∷ [])
 
 -- from when to when
 unfoldable pub row_span : Clock → Passage → List ℕ

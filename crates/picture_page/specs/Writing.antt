@@ -1,5 +1,5 @@
 -- What is written in hulls, in a font of fixed width.
-use Rattle.std.specs.Prelude.{ℕ, ◌+◌, ◌*◌, ◌-◌, ◌/◌, List, [], ◌∷◌, ◌++◌, length, Bool, ◌&&◌, ◌||◌, nat_le, nat_lt, codes, if◌then◌else◌}
+use Rattle.std.specs.Prelude.{ℕ, ◌+◌, ◌*◌, ◌-◌, ◌/◌, ◌%◌, List, [], ◌∷◌, ◌++◌, length, Bool, ◌&&◌, ◌||◌, nat_le, nat_lt, codes, if◌then◌else◌}
 use Rattle.std.specs.List.{flat_map, range_with_len}
 use Rattle.lock_model.specs.declared.instance.Instance.{Instance}
 use Rattle.lock_model.specs.declared.plan.Lockage.{Lockage}
@@ -49,18 +49,18 @@ base_of h = hull_middle h + em_of h / 2 + 2
 -- the letter of place k, from a point on or about it
 unfoldable pub letter_text : Hull → ℕ → ℕ → List ℕ
 letter_text h x k =
-    font_of h ++ filled (codes "\" x=\"%\" y=\"%\"><tspan class=\"bd\">") (x ∷ base_of h ∷ []) ++ letter k ∷ [] ++ filled (codes "</tspan>") []
+    font_of h ++ filled (codes "\" x=\"%\" y=\"%\"><tspan class=\"bd\">") (x ∷ base_of h ∷ []) ++ letter k ∷ []
 
 -- the letter alone
 unfoldable pub letter_alone : Hull → Room → ℕ → List ℕ
-letter_alone h r k = filled (codes "<text class=\"mo mi") [] ++ letter_text h ((r.from + r.to) / 2) k ++ filled (codes "</text>") []
+letter_alone h r k = filled (codes "<text class=\"mo mi") [] ++ letter_text h ((r.from + r.to) / 2) k ++ filled (codes "</tspan></text>") []
 
 -- the size has room after a letter, a name and spaces
 abbrev pub has_size : Ship → Hull → Room → Bool
 has_size s h r = nat_le (r.from + em_of h * (5 + length s.name + length (metres s.length) + length (metres s.width))) r.to
 
 unfoldable pub ship_size : Ship → List ℕ
-ship_size s = codes "  " ++ metres s.length ++ codes "&#215;" ++ metres s.width
+ship_size s = filled (codes "  %.%&#215;%.%") (s.length / 10 ∷ s.length % 10 ∷ s.width / 10 ∷ s.width % 10 ∷ [])
 
 abbrev pub size_after : Ship → Hull → Room → List ℕ
 size_after s h r = if has_size s h r then (ship_size s) else []
@@ -68,7 +68,7 @@ size_after s h r = if has_size s h r then (ship_size s) else []
 -- the letter and the name, and the size where it has room
 unfoldable pub letter_name : Ship → Hull → Room → ℕ → List ℕ
 letter_name s h r k =
-    filled (codes "<text class=\"mo") [] ++ letter_text h r.from k ++ filled (codes "<tspan class=\"nm\"> ") [] ++ s.name ++ size_after s h r
+    filled (codes "<text class=\"mo") [] ++ letter_text h r.from k ++ filled (codes "</tspan><tspan class=\"nm\"> ") [] ++ s.name ++ size_after s h r
     ++ filled (codes "</tspan></text>") []
 
 -- nothing has room

@@ -3,7 +3,7 @@ ghost use Rattle.std.specs.Prelude.{◌≡◌, ◌+◌, ◌≤◌, ◌<◌, ◌+
 ghost use Rattle.day_play.specs.Lawful.{IsWholeLockage};
 ghost use Rattle.picture_page.specs.KnownPassages.{IsKnown};
 ghost use Rattle.picture_page.specs.Scales.{deck_scale};
-ghost use Rattle.picture_page.specs.Cards.{head_words, head_times, card_head, parting, title_ship, title_ships, height_of, card_title};
+ghost use Rattle.picture_page.specs.Cards.{head_words, card_head, parting, title_ship, title_ships, height_of, card_title};
 ghost use Rattle.picture_page.specs.Cards.{deck_picture, list_ship, list_row, rows_from, list_rows, card, card_of, cards};
 
 use crate::berths::{put_berth, ship_of, spot_of};
@@ -15,7 +15,7 @@ use crate::shapes::{put_arrow, put_cargo};
 use crate::ties::put_ties;
 use crate::times::{Clock, put_time_after};
 use crate::waters::{drawn, put_feet, put_waters};
-use crate::words::{put_measures, put_metres};
+use crate::words::put_measures;
 use crate::writing::put_writing;
 use day_play::moor_order;
 use instance_text::way_word;
@@ -38,23 +38,15 @@ fn put_head_words(out: &mut Vec<u8>, name: &[u8], passage: &Passage) -> Result<(
     put(out, name)
 }
 
-/// Appends its times.
-#[tactic(auto, unfolding(crate::specs::Cards::head_times))]
-fn put_head_times(out: &mut Vec<u8>, clock: Clock, passage: &Passage) -> Result<(), NoMemory>
-    ensures { OnOk result (out.new.items ≡ out.old.items ++ head_times clock passage.now) }
-{
-    put_time_after(out, b"</strong></span><span>", clock, passage.start as u64)?;
-    put_time_after(out, b" &#8211; ", clock, passage.end())?;
-    put_form(out, b"</span></h3>\n", &[])
-}
-
 /// Appends the head of the card of a passage.
 #[tactic(auto, unfolding(crate::specs::Cards::card_head))]
 fn put_head(out: &mut Vec<u8>, clock: Clock, name: &[u8], passage: &Passage) -> Result<(), NoMemory>
     ensures { OnOk result (out.new.items ≡ out.old.items ++ card_head clock name.now passage.now) }
 {
     put_head_words(out, name, passage)?;
-    put_head_times(out, clock, passage)
+    put_time_after(out, b"</strong></span><span>", clock, passage.start as u64)?;
+    put_time_after(out, b" &#8211; ", clock, passage.end())?;
+    put_form(out, b"</span></h3>\n", &[])
 }
 
 /// Appends what stands before the ship at a place of a list.
@@ -124,11 +116,10 @@ fn put_title(
 {
     put_form(
         out,
-        b"<svg class=\"d\" viewBox=\"0 0 1968 %\" role=\"img\"><title>Lockage %, chamber ",
+        b"<svg class=\"d\" viewBox=\"0 0 1968 %\" role=\"img\"><title>Lockage %",
         &[height_of(width), number as u64],
     )?;
-    put(out, name)?;
-    put_form(out, b" from above: ", &[])?;
+    put_between(out, b", chamber ", name, b" from above: ")?;
     put_title_ships(out, instance, lockage)?;
     put_form(out, b"</title>", &[])
 }
@@ -151,8 +142,7 @@ fn put_deck_picture(
     put_writing(out, scale, instance, lockage)?;
     let width = drawn(scale, chamber.width);
     let height = height_of(width);
-    put_feet(out, chamber, drawn(scale, chamber.length), height - 14)?;
-    put_form(out, b"</svg>\n", &[])
+    put_feet(out, chamber, drawn(scale, chamber.length), height - 14)
 }
 
 /// Appends which to come in, the letter, the name and the size of the ship at a place.
@@ -161,14 +151,12 @@ fn put_list_ship(out: &mut Vec<u8>, entry: u8, ship: &Ship, place: u8) -> Result
     requires { place < MOST }
     ensures { OnOk result (out.new.items ≡ out.old.items ++ list_ship entry ship.now place) }
 {
-    put_form(out, b"<tr><td>%</td><td>", &[entry as u64])?;
-    put(out, &[b'A' + place])?;
-    put_form(out, b"</td><td>", &[])?;
+    put_form(out, b"<tr><td>%", &[entry as u64])?;
+    put_between(out, b"</td><td>", &[b'A' + place], b"</td><td>")?;
     put(out, ship.name.as_slice())?;
     put_cargo(out, ship.cargo)?;
     put_form(out, b"</td><td class=\"v\">", &[])?;
-    put_measures(out, ship.length, ship.width)?;
-    put_form(out, b"</td>", &[])
+    put_measures(out, ship.length, ship.width, b"</td><td>")
 }
 
 /// Appends the row of the ship at a place of a lockage, the so many-th to come in.
@@ -185,11 +173,13 @@ fn put_list_row(
     ensures { OnOk result (out.new.items ≡ out.old.items ++ list_row instance.now lockage.now entry place) }
 {
     put_list_ship(out, entry, ship_of(instance, lockage, place), place)?;
-    put_form(out, b"<td>", &[])?;
     put_berth(out, instance, lockage, place)?;
-    put_form(out, b"</td><td class=\"v\">", &[])?;
-    put_metres(out, spot_of(lockage, place).x)?;
-    put_form(out, b" m<span class=\"fl\"> from low</span></td></tr>", &[])
+    let spot = spot_of(lockage, place);
+    put_form(
+        out,
+        b"</td><td class=\"v\">%.% m<span class=\"fl\"> from low</span></td></tr>",
+        &[spot.x as u64 / 10, spot.x as u64 % 10],
+    )
 }
 
 /// Appends the rows of the ships at these places of a lockage, numbered from a number on.
@@ -249,7 +239,7 @@ fn put_card(
         chamber.name.as_slice(),
     )?;
     put_deck_picture(out, &scale, instance, lockage, chamber)?;
-    put_form(out, b"<table>", &[])?;
+    put_form(out, b"</svg>\n<table>", &[])?;
     put_list_rows(out, instance, lockage)?;
     put_form(out, b"</table></article>\n", &[])
 }

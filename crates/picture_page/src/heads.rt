@@ -3,9 +3,9 @@ ghost use Rattle.std.specs.Prelude.{◌≡◌, ◌++◌, OnOk};
 ghost use Rattle.picture_page.specs.Page.{known_word, known_meaning, low_words, bound_words, verdict, page_head};
 ghost use Rattle.picture_page.specs.Page.{least_of, greatest_of, span_word, event_span, heading, next_count, summary};
 
-use crate::form::put_form;
+use crate::form::{put_between, put_form};
 use crate::style::{STYLE, put_present_style};
-use crate::times::{Clock, put_time};
+use crate::times::{Clock, put_time_after};
 use crate::words::put_count;
 use lock_model::Instance;
 use no_memory::NoMemory;
@@ -95,7 +95,6 @@ pub(crate) fn put_page_head(
         &[],
     )?;
     put_verdict(out, known, cost)?;
-    put_form(out, b"</title>\n<style>", &[])?;
     put_form(out, STYLE, &[])?;
     put_present_style(out, present)?;
     put_form(out, b"</style>\n</head>\n<body>\n<main>\n", &[])
@@ -136,10 +135,8 @@ fn span_word(clock: Clock) -> &'static [u8]
 fn put_event_span(out: &mut Vec<u8>, clock: Clock, events: &[u64]) -> Result<(), NoMemory>
     ensures { OnOk result (out.new.items ≡ out.old.items ++ event_span clock events.now) }
 {
-    put(out, span_word(clock))?;
-    put_time(out, clock, least_of(events))?;
-    put(out, b" to ")?;
-    put_time(out, clock, greatest_of(events))
+    put_time_after(out, span_word(clock), clock, least_of(events))?;
+    put_time_after(out, b" to ", clock, greatest_of(events))
 }
 
 /// Appends the heading: what is known of the plan, and what that means.
@@ -149,12 +146,11 @@ pub(crate) fn put_heading(out: &mut Vec<u8>, known: Known, cost: u64) -> Result<
 {
     put_form(out, b"<h1>", &[])?;
     put_verdict(out, known, cost)?;
-    put_form(out, b"</h1>\n<p class=\"sub\">", &[])?;
-    put(out, known_meaning(known))?;
-    put_form(
+    put_between(
         out,
+        b"</h1>\n<p class=\"sub\">",
+        known_meaning(known),
         b" Flow time is from a ship&#8217;s arrival to the end of its lockage; flow times and waits are in minutes.</p>\n<p class=\"sub\">",
-        &[],
     )
 }
 

@@ -60,8 +60,7 @@ fn put_lane_name(out: &mut Vec<u8>, chamber: &Chamber) -> Result<(), NoMemory>
 {
     let name = chamber.name.as_slice();
     put_between(out, b"<tr><th scope=\"row\"><b>", name, b"</b><small>")?;
-    put_measures(out, chamber.length, chamber.width)?;
-    put_form(out, b"</small></th>", &[])
+    put_measures(out, chamber.length, chamber.width, b"</small></th>")
 }
 
 /// Appends what the picture of a chamber with so many lockages shows, and the grid.

@@ -5,7 +5,7 @@ ghost use Rattle.picture_page.specs.Legend.{chamber_entries, ship_entries, legen
 
 use crate::axis::Axis;
 use crate::form::put_form;
-use crate::times::{Clock, put_time};
+use crate::times::{Clock, put_time_after};
 use lock_model::{Chamber, Closure, Instance, Ship};
 use no_memory::NoMemory;
 
@@ -62,8 +62,7 @@ const CARGO: &[u8] = b"\
 fn put_begun_entries(out: &mut Vec<u8>, clock: Clock, minute: u64) -> Result<(), NoMemory>
     ensures { OnOk result (out.new.items ≡ out.old.items ++ begun_entries clock minute) }
 {
-    put_form(out, BEGUN, &[])?;
-    put_time(out, clock, minute)?;
+    put_time_after(out, BEGUN, clock, minute)?;
     put_form(out, PRESENT, &[])
 }
 

@@ -53,8 +53,7 @@ fn put_hull(
 {
     let ship = ship_of(instance, lockage, place);
     put_between(out, b"<g><title>", ship.name.as_slice(), b", ")?;
-    put_measures(out, ship.length, ship.width)?;
-    put_form(out, b", ", &[])?;
+    put_measures(out, ship.length, ship.width, b", ")?;
     put_berth(out, instance, lockage, place)?;
     put_form(out, b"</title>", &[])?;
     put_outline(out, lockage.way, &hull_of(scale, instance, lockage, place))

@@ -16,7 +16,7 @@ use crate::words::put_plural_between;
 use lock_model::{Instance, Ship};
 use master_branch::arrival_order;
 use no_memory::NoMemory;
-use plain_text::{put, put_number};
+use plain_text::put;
 
 /// Appends a ship's way, name and cargo.
 #[tactic(auto, unfolding(crate::specs::ShipRows::row_name))]
@@ -26,8 +26,7 @@ fn put_row_name(out: &mut Vec<u8>, ship: &Ship) -> Result<(), NoMemory>
     put_form(out, b"<tr><th scope=\"row\">", &[])?;
     put_arrow(out, ship.way)?;
     put(out, ship.name.as_slice())?;
-    put_cargo(out, ship.cargo)?;
-    put_form(out, b"</th>", &[])
+    put_cargo(out, ship.cargo)
 }
 
 /// Appends when a ship arrives, and how long it waits up to a minute.
@@ -35,9 +34,9 @@ fn put_row_name(out: &mut Vec<u8>, ship: &Ship) -> Result<(), NoMemory>
 fn put_row_wait(out: &mut Vec<u8>, clock: Clock, ship: &Ship, start: u32) -> Result<(), NoMemory>
     ensures { OnOk result (out.new.items ≡ out.old.items ++ row_wait clock ship.now start) }
 {
-    put_time_after(out, b"<td class=\"v\">", clock, ship.arrival as u64)?;
-    put_form(out, b"</td><td class=\"v\">", &[])?;
-    put_number(out, start.saturating_sub(ship.arrival) as u64)
+    put_time_after(out, b"</th><td class=\"v\">", clock, ship.arrival as u64)?;
+    let wait = start.saturating_sub(ship.arrival);
+    put_form(out, b"</td><td class=\"v\">%", &[wait as u64])
 }
 
 /// Appends from when to when a passage is.

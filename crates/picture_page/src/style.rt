@@ -5,8 +5,9 @@ ghost use Rattle.picture_page.specs.Page.{present_style};
 use crate::form::put_form;
 use no_memory::NoMemory;
 
-/// The style sheet of a page.
-pub(crate) const STYLE: &[u8] = b"\n\
+/// The style sheet of a page, behind its title.
+pub(crate) const STYLE: &[u8] = b"</title>\n\
+<style>\n\
 :root{color-scheme:light dark;--bg:#fff;--ink:#16212b;--soft:#44525f;--line:#dfe5ea;--mid:#7c8995;--edge:#b9c3cc;--up:#e3f0f9;--rise:#a9d1ec;--blue:#00507d;--down:#fff4e2;--fall:#f5cf96;--brown:#8a4600;--turn:#5b6a77;--shut:#e9edf0;--quay:#8f9aa4;--water:#f1f7fb;--hull:#c6e0f2;--hulk:#fbe0b8}\n\
 @media screen and (prefers-color-scheme:dark){:root{--bg:#12181e;--ink:#e8eef3;--soft:#a9b6c1;--line:#2b353e;--mid:#7c8995;--edge:#414e59;--up:#142c3b;--rise:#1f5a7d;--blue:#7cc4ee;--down:#38280f;--fall:#775114;--brown:#f0b45c;--turn:#93a1ad;--shut:#27313a;--quay:#65727d;--water:#19232b;--hull:#1d4a66;--hulk:#5d4216}}\n\
 *{box-sizing:border-box}\n\

@@ -98,8 +98,7 @@ fn put_chamber_size(
         b"<text class=\"ft gy mi\" x=\"%\" y=\"%\">",
         &[middle, base],
     )?;
-    put_measures(out, chamber.length, chamber.width)?;
-    put_form(out, b"</text>", &[])
+    put_measures(out, chamber.length, chamber.width, b"</text>")
 }
 
 /// Appends the chamber's size in the middle, where it is drawn long enough.

@@ -6,16 +6,7 @@ ghost use Rattle.picture_page.specs.Words.{metres, measures, plural, count_text}
 use crate::form::put_form;
 use crate::times::digits;
 use no_memory::NoMemory;
-use plain_text::{put, put_number};
-
-/// Appends a length of so many decimetres in metres.
-#[tactic(auto, unfolding(crate::specs::Words::metres))]
-pub(crate) fn put_metres(out: &mut Vec<u8>, decimetres: u32) -> Result<(), NoMemory>
-    ensures { OnOk result (out.new.items ≡ out.old.items ++ metres decimetres) }
-{
-    let numbers = [decimetres as u64 / 10, decimetres as u64 % 10];
-    put_form(out, b"%.%", &numbers)
-}
+use plain_text::put;
 
 /// How many characters a length of so many decimetres has in metres.
 #[tactic(auto, using(crate::proofs::TimeLemmas::of_widths))]
@@ -26,15 +17,23 @@ pub(crate) fn metres_width(decimetres: u32) -> u64
     digits(decimetres as u64 / 10) + 2
 }
 
-/// Appends a length and a width of so many decimetres in metres.
+/// Appends a length and a width of so many decimetres in metres, and a text after them.
 #[tactic(auto, unfolding(crate::specs::Words::measures))]
-pub(crate) fn put_measures(out: &mut Vec<u8>, length: u32, width: u32) -> Result<(), NoMemory>
-    ensures { OnOk result (out.new.items ≡ out.old.items ++ measures length width) }
+pub(crate) fn put_measures(
+    out: &mut Vec<u8>,
+    length: u32,
+    width: u32,
+    after: &[u8],
+) -> Result<(), NoMemory>
+    ensures { OnOk result (out.new.items ≡ out.old.items ++ (measures length width ++ filled after.now [])) }
 {
-    put_metres(out, length)?;
-    put(out, b" &#215; ")?;
-    put_metres(out, width)?;
-    put(out, b" m")
+    let (long, wide) = (length as u64, width as u64);
+    put_form(
+        out,
+        b"%.% &#215; %.% m",
+        &[long / 10, long % 10, wide / 10, wide % 10],
+    )?;
+    put_form(out, after, &[])
 }
 
 /// Appends the ending of a name where there isn't just one thing.
@@ -66,8 +65,7 @@ pub(crate) fn put_plural_between(
 pub(crate) fn put_count(out: &mut Vec<u8>, count: u64, name: &[u8]) -> Result<(), NoMemory>
     ensures { OnOk result (out.new.items ≡ out.old.items ++ count_text count name.now) }
 {
-    put_number(out, count)?;
-    put(out, b" ")?;
+    put_form(out, b"% ", &[count])?;
     put(out, name)?;
     put_plural(out, count)
 }

@@ -8,7 +8,7 @@ use crate::berths::ship_of;
 use crate::form::put_form;
 use crate::hulls::{Hull, hull_of};
 use crate::scales::DeckScale;
-use crate::words::{metres_width, put_metres};
+use crate::words::metres_width;
 use lock_model::{Instance, Lockage, MOST, Ship, Way};
 use no_memory::NoMemory;
 use plain_text::put;
@@ -123,8 +123,7 @@ fn put_letter(out: &mut Vec<u8>, hull: &Hull, x: u64, place: u8) -> Result<(), N
         b"\" x=\"%\" y=\"%\"><tspan class=\"bd\">",
         &[x, base_of(hull)],
     )?;
-    put(out, &[b'A' + place])?;
-    put_form(out, b"</tspan>", &[])
+    put(out, &[b'A' + place])
 }
 
 /// Appends the letter of a place alone, in the middle of the room.
@@ -137,7 +136,7 @@ fn put_letter_alone(out: &mut Vec<u8>, hull: &Hull, room: &Room, place: u8) -> R
 {
     put_form(out, b"<text class=\"mo mi", &[])?;
     put_letter(out, hull, (room.from + room.to) / 2, place)?;
-    put_form(out, b"</text>", &[])
+    put_form(out, b"</tspan></text>", &[])
 }
 
 /// Whether the size of a ship has room after its letter and its name.
@@ -152,27 +151,21 @@ fn has_size(ship: &Ship, hull: &Hull, room: &Room) -> bool
     room.from + em_of(hull) * count <= room.to
 }
 
-/// Appends the size of a ship after its name.
-#[tactic(auto, unfolding(crate::specs::Writing::ship_size))]
-fn put_ship_size(out: &mut Vec<u8>, ship: &Ship) -> Result<(), NoMemory>
-    ensures { OnOk result (out.new.items ≡ out.old.items ++ ship_size ship.now) }
-{
-    put(out, b"  ")?;
-    put_metres(out, ship.length)?;
-    put(out, b"&#215;")?;
-    put_metres(out, ship.width)
-}
-
 /// Appends the size of a ship after its name, where it has room.
+#[tactic(auto, unfolding(crate::specs::Writing::ship_size))]
 fn put_size_after(out: &mut Vec<u8>, ship: &Ship, hull: &Hull, room: &Room) -> Result<(), NoMemory>
     requires { room.now.from < 2 ^ 35 }
     ensures { OnOk result (out.new.items ≡ out.old.items ++ size_after ship.now hull.now room.now) }
 {
-    if has_size(ship, hull, room) {
-        put_ship_size(out, ship)
-    } else {
-        Ok(())
+    if !has_size(ship, hull, room) {
+        return Ok(());
     }
+    let (long, wide) = (ship.length as u64, ship.width as u64);
+    put_form(
+        out,
+        b"  %.%&#215;%.%",
+        &[long / 10, long % 10, wide / 10, wide % 10],
+    )
 }
 
 /// Appends the letter of a place and the ship's name, and its size where it has room.
@@ -190,7 +183,7 @@ fn put_letter_name(
 {
     put_form(out, b"<text class=\"mo", &[])?;
     put_letter(out, hull, room.from, place)?;
-    put_form(out, b"<tspan class=\"nm\"> ", &[])?;
+    put_form(out, b"</tspan><tspan class=\"nm\"> ", &[])?;
     put(out, ship.name.as_slice())?;
     put_size_after(out, ship, hull, room)?;
     put_form(out, b"</tspan></text>", &[])

@@ -6,9 +6,8 @@ use Rattle.picture_page.proofs.cards.put_deck_picture.Goals as goal
 pub returns : goal.returns
 unfolding deck_picture
 returns c =
-    IfOk-equal c.put_form.result _ _ _ c.put_form.ensures
+    IfOk-equal c.put_feet.result _ _ _ c.put_feet.ensures
     (rw (
-      c.in_ok-put_feet.ensures,
       c.in_ok-put_writing.ensures,
       c.in_ok-put_ties.ensures,
       c.in_ok-put_hulls.ensures,

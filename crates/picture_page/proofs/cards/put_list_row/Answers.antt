@@ -6,13 +6,10 @@ use Rattle.picture_page.proofs.cards.put_list_row.Goals as goal
 pub returns : goal.returns
 unfolding list_row
 returns c =
-    IfOk-equal c.put_form-3.result _ _ _ c.put_form-3.ensures
+    IfOk-equal c.put_form.result _ _ _ c.put_form.ensures
     (rw (
-      c.in_ok-put_metres.ensures,
-      c.in_ok-put_form-2.ensures,
       c.in_ok-put_berth.ensures,
-      c.in_ok-put_form.ensures,
       c.in_ok-put_list_ship.ensures,
       c.ship_of.ensures.value,
-      c.spot_of.ensures,
+      c.spot_of-spot.ensures,
     ) (simp append_assoc))

@@ -6,11 +6,10 @@ use Rattle.picture_page.proofs.cards.put_title.Goals as goal
 pub returns : goal.returns
 unfolding card_title
 returns c =
-    IfOk-equal c.put_form-3.result _ _ _ c.put_form-3.ensures
+    IfOk-equal c.put_form-2.result _ _ _ c.put_form-2.ensures
     (rw (
       c.in_ok-put_title_ships.ensures,
-      c.in_ok-put_form-2.ensures,
-      c.in_ok-put.ensures,
+      c.in_ok-put_between.ensures,
       c.in_ok-put_form.ensures,
       c.height_of.ensures.value,
     ) (simp append_assoc))

@@ -6,5 +6,5 @@ use Rattle.picture_page.proofs.heads.put_heading.Goals as goal
 pub returns : goal.returns
 unfolding heading
 returns c =
-    IfOk-equal c.put_form-3.result _ _ _ c.put_form-3.ensures
-    (rw (c.in_ok-put.ensures, c.in_ok-put_form-2.ensures, c.in_ok-put_verdict.ensures, c.in_ok-put_form.ensures, c.known_meaning.ensures) (simp append_assoc))
+    IfOk-equal c.put_between.result _ _ _ c.put_between.ensures
+    (rw (c.in_ok-put_verdict.ensures, c.in_ok-put_form.ensures, c.known_meaning.ensures) (simp append_assoc))

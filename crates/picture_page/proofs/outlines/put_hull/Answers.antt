@@ -8,9 +8,8 @@ unfolding hull_text
 returns c =
     IfOk-equal c.put_outline.result _ _ _ c.put_outline.ensures
     (rw (
-      c.in_ok-put_form-2.ensures,
-      c.in_ok-put_berth.ensures,
       c.in_ok-put_form.ensures,
+      c.in_ok-put_berth.ensures,
       c.in_ok-put_measures.ensures,
       c.in_ok-put_between.ensures,
       c.hull_of.ensures,

@@ -6,9 +6,8 @@ use Rattle.picture_page.proofs.ship_rows.put_row_name.Goals as goal
 pub returns : goal.returns
 unfolding row_name
 returns c =
-    IfOk-equal c.put_form-2.result _ _ _ c.put_form-2.ensures
+    IfOk-equal c.put_cargo.result _ _ _ c.put_cargo.ensures
     (rw (
-      c.in_ok-put_cargo.ensures,
       c.in_ok-put.ensures,
       c.in_ok-put_arrow.ensures,
       c.in_ok-put_form.ensures,

@@ -6,5 +6,5 @@ use Rattle.picture_page.proofs.ship_rows.put_row_wait.Goals as goal
 pub returns : goal.returns
 unfolding row_wait
 returns c =
-    IfOk-equal c.put_number.result _ _ _ c.put_number.ensures
-    (rw (c.in_ok-put_form.ensures, c.in_ok-put_time_after.ensures, c.saturating_sub.ensures) (simp append_assoc))
+    IfOk-equal c.put_form.result _ _ _ c.put_form.ensures
+    (rw (c.in_ok-put_time_after.ensures, c.saturating_sub-wait.ensures) (simp append_assoc))

@@ -6,5 +6,5 @@ use Rattle.picture_page.proofs.waters.put_chamber_size.Goals as goal
 pub returns : goal.returns
 unfolding chamber_size
 returns c =
-    IfOk-equal c.put_form-2.result _ _ _ c.put_form-2.ensures
-    (rw (c.in_ok-put_measures.ensures, c.in_ok-put_form.ensures) (simp append_assoc))
+    IfOk-equal c.put_measures.result _ _ _ c.put_measures.ensures
+    (rw (c.in_ok-put_form.ensures) (simp append_assoc))

@@ -6,5 +6,5 @@ use Rattle.picture_page.proofs.writing.put_letter.Goals as goal
 pub returns : goal.returns
 unfolding letter_text
 returns c =
-    IfOk-equal c.put_form-2.result _ _ _ c.put_form-2.ensures
-    (rw (c.in_ok-put-2.ensures, c.in_ok-put_form.ensures, c.in_ok-put.ensures, c.font_of.ensures, c.base_of.ensures) (simp append_assoc))
+    IfOk-equal c.put-2.result _ _ _ c.put-2.ensures
+    (rw (c.in_ok-put_form.ensures, c.in_ok-put.ensures, c.font_of.ensures, c.base_of.ensures) (simp append_assoc))
