@@ -1,4 +1,4 @@
-//! What a worker asks of the shared book, under its lock, and of the word beside it.
+//! What a worker asks of the shared book, under its lock.
 ghost use Rattle.std.specs.Prelude.{◌<◌, length};
 ghost use Rattle.search_book.specs.Events.{IsAllowed};
 ghost use Rattle.search_worker.specs.Serving.{Serves};
@@ -26,18 +26,10 @@ pub(crate) fn ask<L: Ledger, W: Wait, G: Gate>(
 }
 
 // Keeps what the book answered to the taking after an ending that it accepted.
-fn go_on<L: Ledger, W: Wait, G: Gate>(
-    post: &Post<'_, L, W, G>,
-    worker: &mut Worker<L>,
-    next: Next,
-) -> Result<(), Stop>
-    requires serves { Serves post.now worker.old }
-    ensures serves { Serves post.now worker.new }
-{
-    let _ = post;
+fn go_on(taken: &mut Reply, next: Next) -> Result<(), Stop> {
     match next {
         Next::Taken(reply) => {
-            worker.taken = reply;
+            *taken = reply;
             Ok(())
         }
         Next::Refused(_) => Err(Stop),
@@ -58,7 +50,7 @@ pub(crate) fn finish<L: Ledger, W: Wait, G: Gate>(
     let next = post
         .book
         .end_and_take(post.rt, share, worker.number, ending);
-    go_on(post, worker, next)
+    go_on(&mut worker.taken, next)
 }
 
 /// Closes the held node by what was found of it beside the book, and takes the next slot. False where the
@@ -104,39 +96,5 @@ pub(crate) fn go_ahead<L: Ledger, W: Wait, G: Gate>(
     } = post
         .book
         .go_ahead(post.rt, share, worker.number, id, stretch);
-    go_on(post, worker, next)
-}
-
-/// Takes a slot.
-pub(crate) fn take<L: Ledger, W: Wait, G: Gate>(post: &Post<'_, L, W, G>, worker: &mut Worker<L>)
-    requires serves { Serves post.now worker.old }
-    ensures serves { Serves post.now worker.new }
-{
-    let number = worker.number;
-    worker.taken = ask(post, worker, Event::Take(number));
-}
-
-/// Takes a slot, and waits while none is open and one may come.
-pub(crate) fn take_or_wait<L: Ledger, W: Wait, G: Gate>(
-    post: &Post<'_, L, W, G>,
-    worker: &mut Worker<L>,
-)
-    requires serves { Serves post.now worker.old }
-    ensures serves { Serves post.now worker.new }
-{
-    let number = worker.number;
-    worker.taken = post
-        .book
-        .take_or_wait(post.rt, &mut worker.hands.share, number);
-}
-
-/// The best cost, as far as it is seen from here.
-pub(crate) fn best_cost<L: Ledger, W: Wait, G: Gate>(
-    post: &Post<'_, L, W, G>,
-    worker: &mut Worker<L>,
-) -> u64
-    requires serves { Serves post.now worker.old }
-    ensures serves { Serves post.now worker.new }
-{
-    post.word.load(&mut worker.hands.seat)
+    go_on(&mut worker.taken, next)
 }

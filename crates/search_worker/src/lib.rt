@@ -11,7 +11,7 @@
 //! one of the instance (`trusting`), and takes every answer that doesn't come to a worker of these
 //! rules for a reason to end. The book stays the authority: it accepts an event or refuses it.
 //!
-//! For each node that was taken (`taking`) `working` reads the best cost and asks `node_work` what
+//! For each node that was taken (`taking`, which waits for it) `working` reads the best cost and asks `node_work` what
 //! becomes of the node. One that is split or closed begins a stretch: `walking` works out the nodes
 //! below it, depth first and in the book's order (`trail`), up to one for which the book needs more
 //! than bounds. Any other one ends as `ending` says. Where the workers have prices (`board`), a node
@@ -20,7 +20,7 @@
 //! `price_search`, at the desk that the post is. `sharing` posts what the others are to see, and `knowing`
 //! is what a worker knows of cuts.
 //!
-//! `asking` makes each event, and waits. `post` is what workers share, `hands` and `worker` what each
+//! `asking` makes each event. `post` is what workers share, `hands` and `worker` what each
 //! has. Nothing is claimed of prices: the book takes a closing by them only for what was shown.
 //!
 //! Definitions: `specs/Owning` says, ship by ship, what the test of a node tests, `Serving` what ties

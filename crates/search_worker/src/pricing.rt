@@ -3,20 +3,20 @@ ghost use Rattle.std.specs.Prelude.{⊤};
 ghost use Rattle.master_branch.specs.Node.{IsNodeOf};
 ghost use Rattle.search_worker.specs.Serving.{Serves};
 
-use crate::asking::{ask, best_cost, finish_by};
+use crate::asking::{ask, finish_by};
 use crate::knowing::posted_cuts;
 use crate::post::Post;
 use crate::sharing::{give, post_cut};
 use crate::stop::Stop;
 use crate::worker::Worker;
-use book_core::Reply;
+use book_core::{Foreseen, Reply};
 use deck_cuts::Cut;
 use gates::{Gate, Point};
 use lock_model::{Instance, Plan};
 use master_branch::Node;
 use node_work::Fate;
 use placed_groups::Memory;
-use price_search::{Asked, Desk, InHand, Offer, Pricing, Round, price};
+use price_search::{Asked, Desk, InHand, Pricing, Round, price};
 use price_terms::{Prices, Shown};
 use search_book::{Closing, Event};
 use std::alloc::Global;
@@ -24,25 +24,18 @@ use std::mem;
 use std::sync::Wait;
 use std::sync::ledger::Ledger;
 
-/// Whether prices are to be asked before a node of this depth ends by this fate: one that would be
-/// split, where there are prices that may serve.
-pub(crate) fn is_for_prices<L: Ledger, W: Wait, G: Gate>(
-    post: &Post<'_, L, W, G>,
-    worker: &Worker<L>,
+/// Whether a worker's prices are to be asked before a node ends by this fate: one that would be split,
+/// where there are prices that may serve.
+pub(crate) fn is_for_prices(
+    pricing: &Option<Pricing>,
     fate: &Fate,
-    depth: u8,
+    foreseen: &Foreseen<'_>,
 ) -> bool {
-    let ships = post.search.instance.ships.as_slice().len();
-    match (fate, &worker.pricing) {
-        (Fate::Split, Some(pricing)) => pricing.serves(depth, ships),
+    let ships = foreseen.instance.ships.as_slice().len();
+    match (fate, pricing) {
+        (Fate::Split, Some(pricing)) => pricing.serves(foreseen.node.depth(), ships),
         _ => false,
     }
-}
-
-// What the parent of a slot left to its children, if anything.
-fn offer_to<L: Ledger, W: Wait, G: Gate>(post: &Post<'_, L, W, G>, id: u32) -> Option<Offer> {
-    let parent = post.book.parent(post.rt, id)?;
-    post.board?.offer(post.rt, parent)
 }
 
 // Where the shared book refuses an event, the worker ends.
@@ -68,7 +61,7 @@ impl<L: Ledger, W: Wait, G: Gate> Desk for Post<'_, L, W, G> {
     }
 
     fn best_cost(&self, worker: &mut Worker<L>, _held: &InHand<'_>) -> u64 {
-        best_cost(self, worker)
+        self.word.load(&mut worker.hands.seat)
     }
 
     fn learn(
@@ -90,7 +83,7 @@ impl<L: Ledger, W: Wait, G: Gate> Desk for Post<'_, L, W, G> {
         pricing: &mut Pricing,
         held: &InHand<'_>,
     ) -> Result<Round, Stop> {
-        let best = best_cost(self, worker);
+        let best = self.word.load(&mut worker.hands.seat);
         let known = posted_cuts(self.pool, &worker.tokens);
         let asked = Asked {
             search: &self.search,
@@ -141,7 +134,11 @@ impl<L: Ledger, W: Wait, G: Gate> Desk for Post<'_, L, W, G> {
 
     // Whoever worked on the node above, the board has what it left.
     fn inherit(&self, pricing: &mut Pricing, held: &InHand<'_>) {
-        pricing.go_with(offer_to(self, held.id));
+        let offer = match (self.board, self.book.parent(self.rt, held.id)) {
+            (Some(board), Some(parent)) => board.offer(self.rt, parent),
+            _ => None,
+        };
+        pricing.go_with(offer);
     }
 
     fn leave(&self, pricing: &mut Pricing, held: &InHand<'_>) -> Result<(), Stop> {

@@ -2,7 +2,8 @@
 ghost use Rattle.std.specs.Prelude.{◌≡◌, ◌<◌};
 ghost use Rattle.search_worker.specs.Serving.{Serves};
 
-use crate::asking::{ask, take};
+use crate::asking::ask;
+use crate::board::Board;
 use crate::hands::Hands;
 use crate::post::Post;
 use crate::stop::Stop;
@@ -13,6 +14,7 @@ use gates::{Gate, Point};
 use lock_model::WORKERS;
 use price_search::Pricing;
 use search_book::{Event, Stretch};
+use std::alloc::Global;
 use std::sync::Wait;
 use std::sync::ledger::Ledger;
 
@@ -27,7 +29,8 @@ fn search_slots<'s, L: Ledger, W: Wait, G: Gate>(
     requires stretch { stretch.old.instance.now ≡ post.now.search.instance.now }
     ensures serves { Serves post.now worker.new }
 {
-    take(post, worker);
+    let number = worker.number;
+    worker.taken = ask(post, worker, Event::Take(number));
     for _ in post.rt.forever() {
         match taken(post, worker)? {
             Some(held) => {
@@ -44,8 +47,8 @@ fn search_slots<'s, L: Ledger, W: Wait, G: Gate>(
 }
 
 // A worker's own prices, if there are any; without memory it searches without.
-fn pricing_of<L: Ledger, W: Wait, G: Gate>(post: &Post<'_, L, W, G>) -> Option<Pricing> {
-    post.board?.pricing(post.alloc)
+fn pricing_of(board: Option<&Board>, alloc: Global) -> Option<Pricing> {
+    board?.pricing(alloc)
 }
 
 /// Searches as worker `number`, below `WORKERS`, until nothing is open or held, the nodes are spent, or it has
@@ -64,7 +67,8 @@ pub fn search<L: Ledger, W: Wait, G: Gate>(
     requires seat { hands.seat.table ≡ post.now.word.now.table }
     ensures seat { result.seat.table ≡ hands.seat.table }
 {
-    let mut worker = Worker::new(post.alloc, number, hands, pricing_of(post));
+    let pricing = pricing_of(post.board, post.alloc);
+    let mut worker = Worker::new(post.alloc, number, hands, pricing);
     let mut stretch = Stretch::new(post.alloc, post.search.instance);
     if let Err(Stop) = search_slots(post, &mut worker, &mut stretch) {
         ask(post, &mut worker, Event::Release(number));

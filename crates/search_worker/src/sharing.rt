@@ -1,4 +1,6 @@
 //! What a worker lets the others see.
+ghost use Rattle.std.specs.Prelude.{All};
+ghost use Rattle.boxcar.specs.Table.{Shows};
 ghost use Rattle.search_worker.specs.Serving.{Serves};
 
 use crate::asking::ask;
@@ -6,6 +8,7 @@ use crate::post::Post;
 use crate::stop::Stop;
 use crate::worker::Worker;
 use book_core::{Refusal, Reply};
+use cut_pool::{Pool, Tokens};
 use deck_cuts::{Cut, copy_cut};
 use gates::Gate;
 use lock_model::Plan;
@@ -14,17 +17,12 @@ use std::sync::Wait;
 use std::sync::ledger::Ledger;
 
 // Posts a cut of the book to the pool. Without memory the others find it in the book alone.
-fn show_cut<L: Ledger, W: Wait, G: Gate>(
-    post: &Post<'_, L, W, G>,
-    worker: &mut Worker<L>,
-    cut: Cut,
-    number: u64,
-)
-    requires serves { Serves post.now worker.old }
-    ensures serves { Serves post.now worker.new }
+fn show_cut<W: Wait>(pool: &Pool, rt: &W, tokens: &mut Tokens, cut: Cut, number: u64)
+    requires posted { All (λ token. Shows pool.now token) tokens.old }
+    ensures posted { All (λ token. Shows pool.now token) tokens.new }
 {
-    if let Ok(token) = post.pool.post(post.rt, cut, number) {
-        let _ = worker.tokens.add(token);
+    if let Ok(token) = pool.post(rt, cut, number) {
+        let _ = tokens.add(token);
     }
 }
 
@@ -43,24 +41,13 @@ pub(crate) fn post_cut<L: Ledger, W: Wait, G: Gate>(
         return Err(Stop);
     };
     if let Some(copy) = copy {
-        show_cut(post, worker, copy, number);
+        show_cut(post.pool, post.rt, &mut worker.tokens, copy, number);
     }
     Ok(number)
 }
 
-// Lowers the shared best cost to that of a plan which the book took.
-fn show_cost<L: Ledger, W: Wait, G: Gate>(
-    post: &Post<'_, L, W, G>,
-    worker: &mut Worker<L>,
-    cost: u64,
-)
-    requires serves { Serves post.now worker.old }
-    ensures serves { Serves post.now worker.new }
-{
-    post.word.lower(&mut worker.hands.seat, cost);
-}
-
-/// Gives a plan to the book, which may have one that is as cheap.
+/// Gives a plan to the book, which may have one that is as cheap. Where the book took it, the shared best
+/// cost is lowered to its cost.
 pub(crate) fn give<L: Ledger, W: Wait, G: Gate>(
     post: &Post<'_, L, W, G>,
     worker: &mut Worker<L>,
@@ -70,9 +57,11 @@ pub(crate) fn give<L: Ledger, W: Wait, G: Gate>(
     ensures serves { Serves post.now worker.new }
 {
     match ask(post, worker, Event::Replace(plan)) {
-        Reply::Replaced(cost) => show_cost(post, worker, cost),
-        Reply::Refused(Refusal::NotCheaper(_, _)) => {}
-        _ => return Err(Stop),
+        Reply::Replaced(cost) => {
+            post.word.lower(&mut worker.hands.seat, cost);
+            Ok(())
+        }
+        Reply::Refused(Refusal::NotCheaper(_, _)) => Ok(()),
+        _ => Err(Stop),
     }
-    Ok(())
 }

@@ -1,7 +1,6 @@
 //! The slot that a worker was given.
 ghost use Rattle.search_worker.specs.Serving.{Serves};
 
-use crate::asking::take_or_wait;
 use crate::post::Post;
 use crate::stop::Stop;
 use crate::worker::{Held, SHORT, Worker};
@@ -19,7 +18,8 @@ fn wait_if_idle<L: Ledger, W: Wait, G: Gate>(post: &Post<'_, L, W, G>, worker: &
     if let Reply::Refused(Refusal::Idle) = worker.taken {
         post.gate.at(worker.number, Point::Idle);
         worker.reach = SHORT;
-        take_or_wait(post, worker);
+        let share = &mut worker.hands.share;
+        worker.taken = post.book.take_or_wait(post.rt, share, worker.number);
     }
 }
 

@@ -9,6 +9,7 @@ use crate::post::Post;
 use crate::pricing::is_for_prices;
 use crate::sharing::post_cut;
 use crate::stop::Stop;
+use crate::trail::Trail;
 use crate::worker::Worker;
 use book_core::Foreseen;
 use closing_rules::Ground;
@@ -66,24 +67,18 @@ pub(crate) fn simple_ending<L: Ledger, W: Wait, G: Gate>(
 }
 
 /// Puts a node behind the others of the stretch, and goes on below it if it is split.
-pub(crate) fn append<'s, L: Ledger, W: Wait, G: Gate>(
-    post: &Post<'s, L, W, G>,
-    worker: &mut Worker<L>,
+pub(crate) fn append<'s>(
+    trail: &mut Trail,
     stretch: &mut Stretch<'s>,
     foreseen: Foreseen<'s>,
     ending: Ending,
 ) -> Result<(), Stop>
-    requires serves { Serves post.now worker.old }
-    requires stretch { stretch.old.instance.now ≡ post.now.search.instance.now }
-    requires instance { foreseen.instance.now ≡ post.now.search.instance.now }
-    ensures serves { Serves post.now worker.new }
-    ensures stretch { stretch.new.instance.now ≡ post.now.search.instance.now }
+    requires instance { foreseen.instance.now ≡ stretch.old.instance.now }
+    ensures stretch { stretch.new.instance.now ≡ stretch.old.instance.now }
     ensures some { IfOk result (λ _. 0 < length stretch.new.nodes.items) }
 {
-    let _ = post;
-    worker.worked = worker.worked.saturating_add(1);
     if let Ending::Split = ending {
-        worker.trail.enter(stretch.nodes.len())?;
+        trail.enter(stretch.nodes.len())?;
     }
     stretch.push(foreseen, ending)?;
     Ok(())
@@ -113,12 +108,13 @@ fn step<'s, L: Ledger, W: Wait, G: Gate>(
     }
     let foreseen = Foreseen::new(search.instance, &search.roster, node);
     let fate = foreseen_fate(post, worker, &foreseen, best)?;
-    if is_for_prices(post, worker, &fate, foreseen.node.depth()) {
+    if is_for_prices(&worker.pricing, &fate, &foreseen) {
         return Ok(false);
     }
     match simple_ending(post, worker, fate)? {
         Some(ending) => {
-            append(post, worker, stretch, foreseen, ending)?;
+            worker.worked = worker.worked.saturating_add(1);
+            append(&mut worker.trail, stretch, foreseen, ending)?;
             Ok(true)
         }
         None => Ok(false),

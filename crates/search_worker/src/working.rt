@@ -3,8 +3,8 @@ ghost use Rattle.std.specs.Prelude.{◌≡◌, ◌<◌, length, IfOk};
 ghost use Rattle.master_branch.specs.Node.{IsNodeOf};
 ghost use Rattle.search_worker.specs.Serving.{Serves};
 
-use crate::asking::{best_cost, go_ahead};
-use crate::ending::{close, end};
+use crate::asking::{finish, go_ahead};
+use crate::ending::end;
 use crate::knowing::posted_cuts;
 use crate::post::Post;
 use crate::pricing::{is_for_prices, price_held};
@@ -16,7 +16,7 @@ use book_core::Foreseen;
 use flow_bounds::bound;
 use gates::{Gate, Point};
 use node_work::{Fate, closed_early, whole_fate};
-use search_book::{Ending, Stretch};
+use search_book::{Ending, Event, Stretch};
 use std::sync::Wait;
 use std::sync::ledger::Ledger;
 
@@ -60,7 +60,8 @@ fn go_below<'s, L: Ledger, W: Wait, G: Gate>(
 {
     stretch.clear();
     worker.trail.clear();
-    append(post, worker, stretch, foreseen, ending)?;
+    worker.worked = worker.worked.saturating_add(1);
+    append(&mut worker.trail, stretch, foreseen, ending)?;
     let before = worker.worked;
     let most = worker.reach;
     worker.reach = (2 * most).min(LONG);
@@ -91,7 +92,7 @@ fn work_inner<'s, L: Ledger, W: Wait, G: Gate>(
     if let Fate::Spent(_, _, _) = fate {
         return end(post, worker, id, fate);
     }
-    let priced = is_for_prices(post, worker, &fate, foreseen.node.depth());
+    let priced = is_for_prices(&worker.pricing, &fate, &foreseen);
     if priced && price_held(post, worker, id, &foreseen.node)? {
         return Ok(());
     }
@@ -118,7 +119,7 @@ fn work_on<'s, L: Ledger, W: Wait, G: Gate>(
 {
     let instance = post.search.instance;
     if let Some(why) = closed_early(&post.search, bound(instance, &held.node), best) {
-        return close(post, worker, held.id, why);
+        return finish(post, worker, Event::Close(held.id, why));
     }
     if (held.node.depth() as usize) < instance.ships.as_slice().len() {
         work_inner(post, worker, stretch, held, best)
@@ -142,7 +143,7 @@ pub(crate) fn work<'s, L: Ledger, W: Wait, G: Gate>(
     ensures stretch { stretch.new.instance.now ≡ post.now.search.instance.now }
 {
     post.gate.at(worker.number, Point::Took(held.node.depth()));
-    let best = best_cost(post, worker);
+    let best = post.word.load(&mut worker.hands.seat);
     post.gate.at(worker.number, Point::Read(best));
     if !is_node_of(&post.order, post.search.instance, &held.node) {
         return Err(Stop);
