@@ -173,8 +173,8 @@ pub(crate) fn price_held<L: Ledger, W: Wait, G: Gate>(
     let mut memory = mem::replace(&mut worker.memory, Memory::new(post.alloc));
     let held = InHand { id, node };
     post.gate.at(worker.number, Point::Prices(node.depth()));
-    let closed = price(post, worker, &mut memory, &mut pricing, &held)?;
+    let closed = price(post, worker, &mut memory, &mut pricing, &held);
     worker.memory = memory;
     worker.pricing = Some(pricing);
-    Ok(closed)
+    closed
 }

@@ -32,15 +32,13 @@ fn search_slots<'s, L: Ledger, W: Wait, G: Gate>(
     let number = worker.number;
     worker.taken = ask(post, worker, Event::Take(number));
     for _ in post.rt.forever() {
-        match taken(post, worker)? {
-            Some(held) => {
-                work(post, worker, stretch, held)?;
-                post.gate.at(worker.number, Point::Closed);
-                if worker.worked >= post.quota {
-                    return Err(Stop);
-                }
-            }
-            None => return Ok(()),
+        let Some(held) = taken(post, worker)? else {
+            return Ok(());
+        };
+        work(post, worker, stretch, held)?;
+        post.gate.at(worker.number, Point::Closed);
+        if worker.worked >= post.quota {
+            return Err(Stop);
         }
     }
     unreachable!()

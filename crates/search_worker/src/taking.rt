@@ -10,8 +10,12 @@ use std::mem;
 use std::sync::Wait;
 use std::sync::ledger::Ledger;
 
-// Waits for a slot, where none was open but one may come. The gate is told before the waiting.
-fn wait_if_idle<L: Ledger, W: Wait, G: Gate>(post: &Post<'_, L, W, G>, worker: &mut Worker<L>)
+/// The slot that the worker took, and its node; it waits where none was open but one may come, and
+/// tells the gate before. None where nothing is open or held, or the nodes are spent.
+pub(crate) fn taken<L: Ledger, W: Wait, G: Gate>(
+    post: &Post<'_, L, W, G>,
+    worker: &mut Worker<L>,
+) -> Result<Option<Held>, Stop>
     requires serves { Serves post.now worker.old }
     ensures serves { Serves post.now worker.new }
 {
@@ -21,18 +25,6 @@ fn wait_if_idle<L: Ledger, W: Wait, G: Gate>(post: &Post<'_, L, W, G>, worker: &
         let share = &mut worker.hands.share;
         worker.taken = post.book.take_or_wait(post.rt, share, worker.number);
     }
-}
-
-/// The slot that the worker took, and its node; it waits where none was open but one may come. None
-/// where nothing is open or held, or the nodes are spent.
-pub(crate) fn taken<L: Ledger, W: Wait, G: Gate>(
-    post: &Post<'_, L, W, G>,
-    worker: &mut Worker<L>,
-) -> Result<Option<Held>, Stop>
-    requires serves { Serves post.now worker.old }
-    ensures serves { Serves post.now worker.new }
-{
-    wait_if_idle(post, worker);
     match mem::replace(&mut worker.taken, Reply::Refused(Refusal::Idle)) {
         Reply::Node(id, node) => Ok(Some(Held { id, node })),
         Reply::Refused(Refusal::Done | Refusal::NodesSpent(_)) => Ok(None),
