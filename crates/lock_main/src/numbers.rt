@@ -12,6 +12,16 @@ const NO_PLAN: u64 = u64::MAX;
 // Room for a line of words and four numbers.
 const LINE: usize = 128;
 
+// The line of these words, each with its number behind it.
+fn line_of(told: &[(&str, u64)]) -> Result<ArrayString<LINE>, fmt::Error> {
+    let mut line = ArrayString::new();
+    for (word, number) in told {
+        write!(line, "{word} {number}")?;
+    }
+    line.write_str("\n")?;
+    Ok(line)
+}
+
 /// Nodes used, rounds of prices, cuts known, the first and the last cost below which no plan is, and the best
 /// plan's cost, both in minutes.
 #[derive(Drop)]
@@ -73,22 +83,20 @@ impl Numbers {
 
     /// The line that tells how far a search is.
     pub(crate) fn line(&self) -> Result<ArrayString<LINE>, fmt::Error> {
-        let (nodes, cost) = (self.nodes.load(SeqCst), self.cost.load(SeqCst));
-        let low = self.low.load(SeqCst);
-        let mut line = ArrayString::new();
-        writeln!(line, "nodes {nodes} cost {cost} low {low}")?;
-        Ok(line)
+        line_of(&[
+            ("nodes", self.nodes.load(SeqCst)),
+            (" cost", self.cost.load(SeqCst)),
+            (" low", self.low.load(SeqCst)),
+        ])
     }
 
     /// The line that tells how a search ended.
     pub(crate) fn last_line(&self) -> Result<ArrayString<LINE>, fmt::Error> {
-        let (nodes, rounds) = (self.nodes.load(SeqCst), self.rounds.load(SeqCst));
-        let (cuts, first) = (self.cuts.load(SeqCst), self.first_low.load(SeqCst));
-        let mut line = ArrayString::new();
-        writeln!(
-            line,
-            "ended nodes {nodes} rounds {rounds} cuts {cuts} first low {first}"
-        )?;
-        Ok(line)
+        line_of(&[
+            ("ended nodes", self.nodes.load(SeqCst)),
+            (" rounds", self.rounds.load(SeqCst)),
+            (" cuts", self.cuts.load(SeqCst)),
+            (" first low", self.first_low.load(SeqCst)),
+        ])
     }
 }
