@@ -3,7 +3,7 @@
 use price_terms::Limits;
 use sweep::SweepLimits;
 
-// The most labels of a sweep, which is of one cost: six times those that a search may make for one, so that
+// The most labels of a sweep, which is of one cost: four times those that a search may make for one, so that
 // what a search has swept is swept here too.
 const LABELS: usize = 4_000_000;
 

@@ -68,8 +68,8 @@ deck_picture scale I l c =
 -- which to come in, the letter, the name and the size of the ship at place k
 unfoldable pub list_ship : ℕ → Ship → ℕ → List ℕ
 list_ship entry s k =
-    filled (codes "<tr><td>%") (entry ∷ []) ++ filled (codes "</td><td>") [] ++ letter k ∷ [] ++ filled (codes "</td><td>") [] ++ s.name ++ cargo_mark s.cargo
-    ++ filled (codes "</td><td class=\"v\">") [] ++ measures s.length s.width ++ filled (codes "</td><td>") []
+    filled (codes "<tr><td>%") (entry ∷ []) ++ filled (codes "</td><td>") [] ++ letter k ∷ [] ++ filled (codes "</td><td>") [] ++ s.name
+    ++ cargo_mark s.cargo ++ filled (codes "</td><td class=\"v\">") [] ++ measures s.length s.width ++ filled (codes "</td><td>") []
 
 -- and how and where it lies
 unfoldable pub list_row : Instance → Lockage → ℕ → ℕ → List ℕ

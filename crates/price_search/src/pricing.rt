@@ -250,8 +250,8 @@ impl Pricing {
         !self.is_first || self.first.plans_each_round() || self.left % 2 == 0
     }
 
-    // Whether what rounds have reached is far below the best cost, by so many of them that it tells.
-    fn is_wide(&self, best: u64) -> bool {
+    /// Whether what rounds have reached is far below the best cost, by so many of them that it tells.
+    pub fn is_wide(&self, best: u64) -> bool {
         let gap = best.saturating_sub(self.reached());
         self.left < MOST_ROUNDS - ROUNDS_BEFORE && gap > best / WIDE_PART
     }

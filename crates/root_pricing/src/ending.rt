@@ -3,8 +3,9 @@ ghost use Rattle.master_branch.specs.Node.{IsNodeOf};
 ghost use Rattle.price_search.specs.Holding.{Ends};
 ghost use Rattle.root_pricing.specs.Ending.{was_swept};
 
+use crate::beaming::beam_root;
 use crate::desk::RootDesk;
-use crate::pricing::{FEW_LABELS_AT_ONCE, MOST_LABELS_AT_ONCE, RootPricing};
+use crate::pricing::{FEW_LABELS_AT_ONCE, RootPricing};
 use crate::sweeping::sweep_root;
 use placed_groups::Memory;
 use price_search::InHand;
@@ -47,7 +48,7 @@ fn sweep_or_ascend<D: RootDesk>(
 }
 
 // What is next at the root, whose ascent ended: another one, unless few labels close it, and after the last
-// one as many as may be made.
+// one beams, and as many labels as may be made.
 fn end_root<D: RootDesk>(
     desk: &D,
     hand: &mut D::Hand,
@@ -64,7 +65,9 @@ fn end_root<D: RootDesk>(
         AfterAscent::Closed => Ok(AfterAscent::Closed),
         AfterAscent::Ascend => Ok(AfterAscent::Ascend),
         AfterAscent::Split => {
-            if sweep_root(desk, hand, memory, root, held, MOST_LABELS_AT_ONCE)? {
+            beam_root(desk, hand, memory, root, held)?;
+            let most = root.most_labels();
+            if sweep_root(desk, hand, memory, root, held, most)? {
                 Ok(AfterAscent::Closed)
             } else {
                 Ok(AfterAscent::Split)

@@ -4,18 +4,19 @@
 //! the root, it sweeps costs from what they reach up to the best cost: that closes the root too, or an uncut
 //! plan is found that costs less, whose groups are placed. Few labels are made first. If they don't close the
 //! root, some triples of ships get prices, and another ascent begins from the best prices so far, up to
-//! three times; then many labels are made. Triples are raised at the root alone: nodes below it keep them
-//! at the prices that they have there.
+//! three times; then many labels are made. Of many ships beams seek cheaper plans before. Triples are raised at
+//! the root alone: nodes below it keep them at the prices that they have there.
 //!
 //! One thread alone prices the root, before others search below it: its desk is a `RootDesk`.
 //!
-//! - `pricing`: what sweeps and ascents may take. `goals`: costs that are swept. `sweeping`: the root, swept.
-//!   `placing`: groups that a sweep found, placed. `ending`: what comes after an ascent. `carrying`: the
-//!   root's rounds. `desk`: where what is found is carried out.
+//! - `pricing`: what sweeps, beams and ascents may take. `goals`: costs that are swept. `sweeping`: the root, swept.
+//!   `beaming`: cheaper plans, sought by beams. `placing`: groups that a sweep or a beam found, placed. `ending`:
+//!   what comes after an ascent. `carrying`: the root's rounds. `desk`: where what is found is carried out.
 //!
 //! Definitions: `specs/Ending` says whether the root was closed.
 #![tactic(auto)]
 
+mod beaming;
 mod carrying;
 mod desk;
 mod ending;

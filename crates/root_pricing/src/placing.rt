@@ -1,4 +1,4 @@
-//! Uncut groups that sweeps find, placed.
+//! Uncut groups that sweeps and beams find, placed.
 ghost use Rattle.std.specs.Prelude.{◌≡◌};
 
 use lock_model::Instance;
@@ -12,7 +12,7 @@ use std::alloc::Global;
 use sweep::{UncutPlan, group_of};
 use sweep_labels::KeptLabel;
 
-/// Groups that a sweep found, of which no cut is known.
+/// Groups that a sweep or a beam found, of which no cut is known.
 #[derive(Drop)]
 pub enum UncutGroups<'l> {
     /// Those of a plan.
@@ -68,6 +68,15 @@ fn place_steps<K: KnownCuts>(
     Ok(())
 }
 
+// How a plan's groups may move: of few ships a sweep finds the best plan soon, and stretches take longer.
+fn moves_of(instance: &Instance) -> Moves {
+    if instance.is_large() {
+        Moves::Stretches
+    } else {
+        Moves::Ships
+    }
+}
+
 /// Places uncut groups: each that doesn't fit gives a cut. Those of a plan are a plan then, which is found
 /// where it is cheaper than the best one. Its only refusal is want of memory.
 pub fn place_uncut<K: KnownCuts>(
@@ -86,7 +95,7 @@ pub fn place_uncut<K: KnownCuts>(
                 instance,
                 &lines,
                 asked.best,
-                Moves::Ships,
+                moves_of(instance),
                 &mut placer,
             )?
         }

@@ -7,10 +7,13 @@ use price_raise::Pace;
 use price_search::{FirstNode, Pricing, ROOT_LIMITS};
 use price_terms::Prices;
 use std::alloc::Global;
-use sweep::{SweepAsked, SweepLimits, SweepOutcome, sweep};
+use sweep::{SweepAsked, SweepLimits, SweepOutcome, UncutPlan, beam_plan, sweep};
+use sweep_arcs::ArcLimits;
 
-/// The most labels for one cost of a sweep, which take some 260 bytes each while it lasts.
-pub(crate) const MOST_LABELS_AT_ONCE: u64 = 650_000;
+// The most labels for one cost of a sweep, which take some 260 bytes each while it lasts.
+const MOST_LABELS_AT_ONCE: u64 = 650_000;
+// The same of many ships, whose root hardly anything else closes.
+const MOST_LABELS_OF_LARGE: u64 = 1_000_000;
 /// The most labels for one cost while a further ascent may still bring the goal nearer.
 pub(crate) const FEW_LABELS_AT_ONCE: u64 = 30_000;
 // So many times the most labels for one cost all costs of a sweep may take: each takes some times as many as the
@@ -19,6 +22,8 @@ const COSTS_OF_A_SWEEP: u64 = 4;
 // The most groups of a chamber and way that a sweep grows at once: where chambers take six ships and more at a time,
 // costs far above what prices reach ask for so many.
 const MOST_SWEPT_GROUPS: usize = 600_000;
+// The most groups of a chamber and way that a beam grows at once.
+const MOST_BEAM_GROUPS: usize = 200_000;
 // The most ascents at the root after its first one, each with more triples.
 const MORE_ASCENTS: u32 = 3;
 
@@ -82,6 +87,14 @@ impl RootPricing {
         })
     }
 
+    /// The most labels for one cost of a sweep.
+    pub(crate) fn most_labels(&self) -> u64 {
+        match self.first {
+            FirstNode::Long | FirstNode::Steady => MOST_LABELS_AT_ONCE,
+            FirstNode::Lasting => MOST_LABELS_OF_LARGE,
+        }
+    }
+
     /// Whether further ascents may be made.
     pub(crate) fn may_ascend(&self) -> bool {
         self.ascents > 0
@@ -118,6 +131,36 @@ impl RootPricing {
         match self.first {
             FirstNode::Long | FirstNode::Steady => true,
             FirstNode::Lasting => false,
+        }
+    }
+
+    /// Whether a beam may find a plan that costs less than so many minutes: of many ships where prices reach far less.
+    pub(crate) fn may_beam(&self, best: u64) -> bool {
+        match self.first {
+            FirstNode::Lasting => self.pricing.is_wide(best),
+            FirstNode::Long | FirstNode::Steady => false,
+        }
+    }
+
+    /// An uncut plan that costs less than so many minutes, found by a beam with the best prices and the book's first
+    /// cuts. None where it finds none, where that takes more than limits, or for want of memory.
+    pub(crate) fn beam(&self, alloc: Global, instance: &Instance, best: u64) -> Option<UncutPlan> {
+        let low = self.pricing.reached();
+        let asked = SweepAsked {
+            instance,
+            cuts: self.pricing.cuts(),
+            prices: self.pricing.best(),
+            low,
+            first: low,
+            goal: best,
+        };
+        let limits = ArcLimits {
+            groups: MOST_BEAM_GROUPS,
+            turns: ROOT_LIMITS.turns,
+        };
+        match beam_plan(alloc, &asked, limits) {
+            Ok(plan) => plan,
+            Err(_) => None,
         }
     }
 

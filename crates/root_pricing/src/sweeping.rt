@@ -49,8 +49,8 @@ fn close_swept<D: RootDesk>(
     }
 }
 
-// Places uncut groups that a sweep found; whether that gave a better plan or new cuts.
-fn place<D: RootDesk>(
+/// Places uncut groups that a sweep or a beam found; whether that gave a better plan or new cuts.
+pub(crate) fn place<D: RootDesk>(
     desk: &D,
     hand: &mut D::Hand,
     memory: &mut Memory,

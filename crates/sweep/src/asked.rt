@@ -5,6 +5,7 @@ ghost use Rattle.sweep.specs.Ends.{IsCase, from_cost};
 use lock_model::Instance;
 use price_groups::LineCase;
 use price_terms::{ChamberCut, Prices};
+use sweep_arcs::ArcLimits;
 
 /// An instance, cuts, prices that help speed alone, and a cost in minutes that is to be swept. Costs are swept
 /// one after the other, from a first one on.
@@ -67,6 +68,14 @@ pub struct SweepLimits {
 }
 
 impl SweepLimits {
+    // Those of a chamber's arcs.
+    pub(crate) fn of_arcs(self) -> ArcLimits {
+        ArcLimits {
+            groups: self.groups,
+            turns: self.turns,
+        }
+    }
+
     // What is left of them where so many labels were made.
     pub(crate) fn without(self, labels: u64) -> SweepLimits {
         SweepLimits {

@@ -5,6 +5,11 @@ ghost use Rattle.std.specs.Prelude.{◌≡◌, ◌≤◌};
 const FEW_LABELS: u64 = 4_000;
 // After one for which more were made, a cost that is farther by an eighth may take more than there may be.
 const MANY_LABELS: u64 = 100_000;
+// From fewer labels than these the last cost is foretold where it takes no more than some times as many: a cheaper
+// plan may still be found before it.
+const TELLING_LABELS: u64 = 50_000;
+
+const TIMES_TOLD: u64 = 4;
 
 /// Costs, in minutes, up to a last one. What a sweep takes hangs on how far its cost is above what prices
 /// bound, so it is that distance that rises.
@@ -57,9 +62,39 @@ impl Goals {
         most.saturating_sub(labels) / a_minute.max(1)
     }
 
+    // How many labels the last cost is foretold to take, where so many were made for this one; so many where it
+    // takes more: each step as far as the last one makes them as many times more as that one did.
+    fn foretold(&self, labels: u64, most: u64) -> u64 {
+        if self.before == 0 || self.farther == 0 {
+            return most;
+        }
+        let rest = self.last.saturating_sub(self.next());
+        let mut foretold = labels;
+        for _ in 0..rest / self.farther {
+            if foretold >= most {
+                return most;
+            }
+            foretold = foretold.saturating_mul(labels) / self.before;
+        }
+        let more = (foretold.saturating_mul(labels) / self.before).saturating_sub(foretold);
+        let part = more.saturating_mul(rest % self.farther) / self.farther;
+        foretold.saturating_add(part).min(most)
+    }
+
+    // Whether the last cost is foretold to take fewer than so many labels.
+    fn may_end(&self, labels: u64, most: u64) -> bool {
+        let told = if labels < TELLING_LABELS {
+            most.min(labels.saturating_mul(TIMES_TOLD))
+        } else {
+            most
+        };
+        labels >= FEW_LABELS && self.foretold(labels, told) < told
+    }
+
     /// After a cost for which so many labels were made, the next one is half as far again, or an eighth where
     /// they weren't few, or half of that where they were many, and no farther then than so many labels are
-    /// foretold to allow. Labels grow so fast with the distance that the last cost takes most.
+    /// foretold to allow; or the last one, where it is foretold to take fewer. Labels grow so fast with the distance
+    /// that the last cost takes most.
     pub(crate) fn rise(&mut self, labels: u64, most: u64)
         ensures { self.new.last ≡ self.old.last }
     {
@@ -69,7 +104,9 @@ impl Goals {
             _ => 16,
         };
         let mut farther = self.distance / parts + 1;
-        if labels >= MANY_LABELS {
+        if self.may_end(labels, most) {
+            farther = self.last.saturating_sub(self.next());
+        } else if labels >= MANY_LABELS {
             farther = farther.min(self.farthest(labels, most)).max(1);
         }
         self.distance = self.distance.saturating_add(farther);

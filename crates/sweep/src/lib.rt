@@ -12,6 +12,9 @@
 //! that serves all others. A label that misses all of them costs at least what they cost alone, and what its
 //! other missing ships cost by prices of their own; the sweep begins anew with that bound.
 //!
+//! `beam_plan` goes on from few labels of each number of served ships alone: it seeks an uncut plan that costs
+//! less than a goal, and shows nothing of costs.
+//!
 //! Definitions: `sweep_rules` says when costs are swept and what labels are, `sweep_split` when late ships have
 //! a cost of their own, `sweep_labels` what labels of the code stand for and what arcs promise. Here
 //! `specs/Ends` says how a sweep begins and ends; `Bounds` (what prices bound behind labels), `Soonest` (what
@@ -20,6 +23,8 @@
 #![tactic(auto)]
 
 mod asked;
+mod beam;
+mod beam_level;
 mod goals;
 mod judging;
 mod late;
@@ -34,5 +39,6 @@ mod sweeper;
 mod sweeping;
 
 pub use asked::{SweepAsked, SweepLimits};
+pub use beam::beam_plan;
 pub use plan::{UncutPlan, group_of};
 pub use sweeping::{SweepEnd, SweepOutcome, sweep};

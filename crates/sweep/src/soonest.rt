@@ -125,6 +125,21 @@ pub(crate) fn is_steady(case: &SweepCase, label: &Label) -> bool
     true
 }
 
+/// The prices of what a label misses, each missing ship at its soonest flow time where that is more; only of
+/// labels whose chambers are steady.
+pub(crate) fn with_soonest(
+    case: &SweepCase,
+    label: &Label,
+    missing: Missing,
+) -> Result<Missing, PriceError> {
+    let mut ships = missing.ships;
+    if is_steady(case, label) {
+        let soonest = soonest_of(case, label);
+        ships = missing_cost(case, &soonest, &label.served)?;
+    }
+    Ok(Missing { ships, ..missing })
+}
+
 /// Whether a label's bound is above the goal where each missing ship costs at least its price and its soonest
 /// flow time; only of labels whose chambers are steady.
 #[tactic(auto, using(crate::proofs::SoonestLemmas::late_none))]

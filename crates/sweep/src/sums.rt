@@ -33,8 +33,8 @@ pub(crate) fn less(sum: u64, part: u64) -> Result<u64, PriceError>
     }
 }
 
-// A number with a sign.
-fn signed(number: u64) -> Result<i64, PriceError>
+/// A number with a sign.
+pub(crate) fn signed(number: u64) -> Result<i64, PriceError>
     ensures { IfOk result (λ own. own ≡ pos number) }
 {
     match i64::try_from(number) {

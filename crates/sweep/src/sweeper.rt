@@ -36,9 +36,9 @@ pub(crate) struct Sweeper<'s, 'k, 'a> {
     pub(crate) most: usize,
 }
 
-// The arcs of a chamber that are asked for.
+/// The arcs of a chamber that are asked for.
 #[tactic(auto, using(crate::proofs::BoundLemmas::lanes_set, crate::proofs::BoundLemmas::lane_arcs))]
-fn arcs_of(
+pub(crate) fn arcs_of(
     case: &SweepCase,
     lanes: &mut [Lane],
     chamber: usize,

@@ -83,8 +83,8 @@ fn append_early<'a>(
     Ok(())
 }
 
-// The cases of all chambers, by all prices and behind them by those of early ships.
-fn cases_of<'a>(
+/// The cases of all chambers, by all prices and behind them by those of early ships.
+pub(crate) fn cases_of<'a>(
     alloc: Global,
     asked: &SweepAsked<'a>,
     late: &'a [LateShips],
@@ -99,29 +99,25 @@ fn cases_of<'a>(
     Ok(cases)
 }
 
-// The chambers of these cases.
-fn lanes_of<'a>(
+/// The chambers of these cases.
+pub(crate) fn lanes_of<'a>(
     alloc: Global,
     cases: &'a [LineCase<'a>],
-    limits: SweepLimits,
+    limits: ArcLimits,
 ) -> Result<Vec<Lane<'a>>, PriceError>
     requires { All IsRootCase cases.now }
     ensures { IfOk result (λ lanes. AreLanesBy cases.now (length cases.now) lanes.items) }
 {
-    let own = ArcLimits {
-        groups: limits.groups,
-        turns: limits.turns,
-    };
     let mut lanes = Vec::new(alloc);
     for place in 0..cases.len() {
-        let lane = Lane::new(alloc, &cases[place], own)?;
+        let lane = Lane::new(alloc, &cases[place], limits)?;
         append(&mut lanes, lane)?;
     }
     Ok(lanes)
 }
 
-// The ships that the chambers wait for.
-fn arrivals_of(
+/// The ships that the chambers wait for.
+pub(crate) fn arrivals_of(
     alloc: Global,
     asked: &SweepAsked,
     lanes: &[Lane],
@@ -306,7 +302,7 @@ fn sweep_with<'a>(
     ensures { IfOk result (λ stage. IsGoalsEnd asked.now stage.end) }
 {
     let cases = cases_of(alloc, asked, late)?;
-    let mut lanes = lanes_of(alloc, &cases, limits)?;
+    let mut lanes = lanes_of(alloc, &cases, limits.of_arcs())?;
     let arrivals = arrivals_of(alloc, asked, &lanes)?;
     let case = SweepCase {
         instance: asked.instance,
